@@ -1,0 +1,9 @@
+pub mod Status
+pub mod Identifier
+pub mod Name
+pub mod Text
+pub mod Reply
+pub mod Limits
+pub mod Causes
+pub mod Shelf
+pub mod Sink

@@ -1,0 +1,42 @@
+-- Replies as contracts see them.
+use Rattle.std.specs.Prelude.{List, [], ℕ, pos}
+use Rattle.osal_base.specs.declared.status.Status.{Status}
+use Rattle.osal_base.specs.declared.reply.Answer.{Answer}
+use Rattle.osal_base.specs.declared.reply.Answer.TheVariants as answer
+use Rattle.osal_base.specs.declared.reply.Ack.{Ack}
+use Rattle.osal_base.specs.declared.reply.Reply.{Reply}
+use Rattle.osal_base.specs.Status.{number_of}
+
+-- an answer, a number and bytes
+pub record Replied : Type 0 where
+  pub answer : Answer
+  pub number : ℕ
+  pub bytes : List ℕ
+
+-- what an acknowledgement and the bytes in the room say
+abbrev pub replied : Ack → List ℕ → Replied
+replied ack bytes = record { answer = ack.answer; number = ack.number; bytes = bytes }
+
+-- what a whole reply says
+abbrev pub reply_of : Reply → Replied
+reply_of reply = record { answer = reply.answer; number = reply.number; bytes = reply.bytes.bytes }
+
+-- a refusal by a status: no number and no bytes
+abbrev pub refusal : Status → Replied
+refusal status = record { answer = answer.Code (number_of status); number = 0; bytes = [] }
+
+-- success, with a number and bytes
+abbrev pub gives_bytes : ℕ → List ℕ → Replied
+gives_bytes number bytes = record { answer = answer.Code (pos 0); number = number; bytes = bytes }
+
+-- success, with a number
+abbrev pub gives : ℕ → Replied
+gives number = gives_bytes number []
+
+-- success alone
+abbrev pub success : Replied
+success = gives 0
+
+-- the task goes on
+abbrev pub goes_on : Replied
+goes_on = record { answer = answer.Go; number = 0; bytes = [] }
