@@ -1,5 +1,5 @@
 -- A shelf of files: what it means, and what its calls leave.
-use Rattle.std.specs.Prelude.{◌≡◌, ◌≢◌, ◌≤◌, ◌↔◌, List, [], ◌++◌, ℕ, take, length, Option, Some, None, IsSome, IsErrOf, Result, Ok, Err}
+use Rattle.std.specs.Prelude.{◌≡◌, ◌≢◌, ◌≤◌, ◌↔◌, List, [], ◌++◌, ℕ, take, Option, Some, None, IsSome, Result, Ok, Err}
 use Rattle.osal_base.specs.declared.shelf.Opened.{Opened}
 use Rattle.osal_base.specs.declared.shelf.Opened.TheVariants as opened
 use Rattle.osal_base.specs.declared.shelf.ReadFailed.{ReadFailed}

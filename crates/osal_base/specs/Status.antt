@@ -1,6 +1,7 @@
 -- The numbers and names of OSAL's status codes.
-use Rattle.std.specs.Prelude.{List, ℕ, codes, pos, negsuc}
+use Rattle.std.specs.Prelude.{List, [], ◌∷◌, ℕ, Option, codes, find, pos, negsuc}
 use Rattle.std.proofs.Common.{ℤ}
+use Rattle.std.specs.Ordering.{int_eq}
 use Rattle.osal_base.specs.declared.status.Status.{Status}
 use Rattle.osal_base.specs.declared.status.Status.TheVariants as status
 
@@ -65,3 +66,18 @@ status_name status.FsErrPathTooLong = codes "OS_FS_ERR_PATH_TOO_LONG"
 status_name status.FsErrNameTooLong = codes "OS_FS_ERR_NAME_TOO_LONG"
 status_name status.FsErrDeviceNotFree = codes "OS_FS_ERR_DEVICE_NOT_FREE"
 status_name status.FsErrPathInvalid = codes "OS_FS_ERR_PATH_INVALID"
+
+-- all statuses
+abbrev pub all_statuses : List Status
+all_statuses =
+    status.Success ∷ status.Error ∷ status.InvalidPointer ∷ status.ErrorTimeout
+    ∷ status.SemFailure ∷ status.SemTimeout ∷ status.QueueEmpty ∷ status.QueueFull
+    ∷ status.QueueTimeout ∷ status.QueueInvalidSize ∷ status.ErrNameTooLong ∷ status.ErrNoFreeIds
+    ∷ status.ErrNameTaken ∷ status.ErrInvalidId ∷ status.ErrNameNotFound ∷ status.ErrInvalidPriority
+    ∷ status.InvalidSemValue ∷ status.TimerErrInvalidArgs ∷ status.ErrObjectInUse ∷ status.ErrIncorrectObjState
+    ∷ status.ErrIncorrectObjType ∷ status.ErrStreamDisconnected ∷ status.ErrInvalidSize ∷ status.ErrInvalidArgument
+    ∷ status.FsErrPathTooLong ∷ status.FsErrNameTooLong ∷ status.FsErrDeviceNotFree ∷ status.FsErrPathInvalid ∷ []
+
+-- the status with that number, if there is one
+abbrev pub status_of : ℤ → Option Status
+status_of number = find (λ s. int_eq (number_of s) number) all_statuses

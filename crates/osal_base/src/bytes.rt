@@ -35,6 +35,13 @@ impl Bytes {
         }
     }
 
+    /// The bytes of a vector, which are not copied.
+    pub fn from_vec(bytes: Vec<u8>) -> Bytes
+        ensures { result.bytes ≡ bytes.items }
+    {
+        Bytes { bytes }
+    }
+
     /// A copy of the bytes.
     pub fn copy(alloc: Global, bytes: &[u8]) -> Result<Bytes, OutOfMemory>
         ensures { IfOk result (λ copied. copied.bytes ≡ bytes.now) }

@@ -1,6 +1,7 @@
 //! Identifiers: the type of an object and its serial, as `osapi-idmap.h` lays them out.
-ghost use Rattle.std.specs.Prelude.{◌≡◌, ◌<◌, ◌%◌, IfSome, IfNone, IsTrue, ◌↔◌};
-ghost use Rattle.osal_base.specs.Identifier.{type_number, compose, serial_of, slot_of};
+ghost use Rattle.std.specs.Prelude.{◌≡◌, ◌≢◌, ◌<◌, ◌%◌, IfSome, IfNone, IsTrue, ◌↔◌};
+ghost use Rattle.osal_base.specs.declared.id.ObjType.{ObjType};
+ghost use Rattle.osal_base.specs.Identifier.{type_number, compose, serial_of, type_of, slot_of};
 
 use std::marker::Model;
 
@@ -44,6 +45,29 @@ impl ObjType {
             ObjType::Console => 12,
             ObjType::Condvar => 13,
         }
+    }
+
+    /// The type with that number, if there is one.
+    pub fn of(number: u32) -> Option<ObjType>
+        ensures found { IfSome result (λ kind. type_number kind ≡ number) }
+        ensures none { IfNone result ((kind : ObjType) → type_number kind ≢ number) }
+    {
+        Some(match number {
+            1 => ObjType::Task,
+            2 => ObjType::Queue,
+            3 => ObjType::CountSem,
+            4 => ObjType::BinSem,
+            5 => ObjType::Mutex,
+            6 => ObjType::Stream,
+            7 => ObjType::Directory,
+            8 => ObjType::Timebase,
+            9 => ObjType::Timer,
+            10 => ObjType::Module,
+            11 => ObjType::FileSystem,
+            12 => ObjType::Console,
+            13 => ObjType::Condvar,
+            _ => return None,
+        })
     }
 }
 
@@ -90,6 +114,14 @@ impl OsalId {
         ensures { result ≡ self }
     {
         self.raw
+    }
+
+    /// The upper half: the type of the object, if the number names one.
+    pub fn obj_type(self) -> Option<ObjType>
+        ensures found { IfSome result (λ kind. type_number kind ≡ type_of self) }
+        ensures none { IfNone result ((kind : ObjType) → type_number kind ≢ type_of self) }
+    {
+        ObjType::of(self.raw / 65536)
     }
 
     /// The lower half: which issue of the type's table it is.

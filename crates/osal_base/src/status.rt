@@ -1,7 +1,7 @@
 //! The status codes of OSAL's calls, as `osapi-error.h` names and numbers them.
 ghost use Rattle.std.specs.Prelude.{◌≡◌, ◌≢◌, IfSome, IfNone};
 ghost use Rattle.osal_base.specs.declared.status.Status.{Status};
-ghost use Rattle.osal_base.specs.Status.{number_of, status_name};
+ghost use Rattle.osal_base.specs.Status.{number_of, status_name, status_of};
 
 /// What a call answers: success, or the cause of its refusal.
 #[derive(Clone, Copy, Debug, PartialEq, Eq)]
@@ -113,6 +113,7 @@ impl Status {
     pub fn of(number: i32) -> Option<Status>
         ensures found { IfSome result (λ s. number_of s ≡ number) }
         ensures none { IfNone result ((s : Status) → number_of s ≢ number) }
+        ensures table { result ≡ status_of number }
     {
         Some(match number {
             0 => Status::Success,

@@ -1,5 +1,16 @@
 pub use Rattle.osal_base.specs.Identifier
 pub use Rattle.osal_base.specs.Name
+pub use Rattle.osal_base.specs.Limits
 pub mod Table
+pub mod Code
 pub mod Next
 pub mod Steps
+pub mod Holds
+pub mod Looks
+pub mod Laws
+pub mod WellFormed
+pub mod Slots
+pub mod Sound
+pub mod SlotSteps
+pub mod Lends
+pub mod Objects

@@ -1,12 +1,8 @@
 -- Which identifier comes next: the first in the course of serials whose slot is free.
 use Rattle.std.specs.Prelude.{ℕ, zero, suc, ◌+◌, ◌-◌, ◌%◌, ◌^◌, min, List, [], ◌∷◌, Option, Bool, not, nat_lt, find, if◌then◌else◌}
 use Rattle.osal_base.specs.Identifier.{compose, slot_of}
+use Rattle.osal_idtable.specs.declared.place.Place.{Place}
 use Rattle.osal_idtable.specs.Table.{TableState, is_slot_taken}
-
--- a place in the course of serials: the serial, and how often the course began again
-pub record Place : Type 0 where
-  pub serial : ℕ
-  pub wraps : ℕ
 
 -- the place after one: serials end below 65,535, and begin again at the slot that comes then
 abbrev pub after : ℕ → Place → Place

@@ -1,13 +1,13 @@
 -- What each call does to a table, and what it answers.
-use Rattle.std.specs.Prelude.{◌≡◌, ◌<◌, ◌≤◌, ◌+◌, ◌-◌, ◌==◌, List, ℕ, Bool, Option, Some, None, Result, Ok, Err, nat_lt, is_some, find, option_map, if◌then◌else◌}
+use Rattle.std.specs.Prelude.{List, ℕ, Bool, Option, Some, None, Result, Ok, Err, nat_lt, is_some, find, option_map, if◌then◌else◌}
 use Rattle.std.specs.FinMap as map
-use Rattle.osal_base.specs.Identifier.{slot_of}
 use Rattle.osal_idtable.specs.declared.table.ReserveFault.{ReserveFault}
 use Rattle.osal_idtable.specs.declared.table.ReserveFault.TheVariants as reserve_fault
 use Rattle.osal_idtable.specs.declared.table.IdFault.{IdFault}
 use Rattle.osal_idtable.specs.declared.table.IdFault.TheVariants as id_fault
-use Rattle.osal_idtable.specs.Table.{Active, TableState, Reserved, active_at, is_named, is_name_taken, with_active, hold_limit}
-use Rattle.osal_idtable.specs.Next.{Place, next_place, id_at_place}
+use Rattle.osal_idtable.specs.Table.{Active, TableState, Reserved, active_at, is_named, is_name_taken}
+use Rattle.osal_idtable.specs.declared.place.Place.{Place}
+use Rattle.osal_idtable.specs.Next.{next_place, id_at_place}
 
 -- the identifier that reserving would give, or the same fault
 abbrev pub peeked : Result Reserved ReserveFault → Result ℕ ReserveFault
@@ -18,13 +18,14 @@ module _ {T : Type 0} where
   -- the identifier at the place is reserved under the name
   abbrev pub issue : TableState T → Option (List ℕ) → Option Place → Result Reserved ReserveFault × TableState T
   issue table name None = (Err reserve_fault.NoFreeIds, table)
-  issue table name (Some place) =
-      (Ok (record { id = id_at_place table place; name = name }),
-       record table {
-         reserved = map.insert table.reserved (id_at_place table place) name;
-         last = place.serial;
-         wraps = place.wraps;
-       })
+  issue table name (Some place) = (
+    Ok (record { id = id_at_place table place; name = name }),
+    record table {
+      reserved = map.insert table.reserved (id_at_place table place) name;
+      last = place.serial;
+      wraps = place.wraps;
+    },
+  )
 
   -- an identifier is set aside for an object to come
   abbrev pub reserve_step : TableState T → Option (List ℕ) → Result Reserved ReserveFault × TableState T
@@ -74,3 +75,25 @@ module _ {T : Type 0} where
   -- the active identifier with the name
   abbrev pub find_id : TableState T → List ℕ → Option ℕ
   find_id table name = option_map (λ e. e.0) (find (λ e. is_named e.1.name name) (map.entries table.active))
+
+  -- an active identifier that nobody holds is reserved again, and gives its object up
+  abbrev pub claimed : TableState T → ℕ → Option (Active T) → Result (Reserved × T) IdFault × TableState T
+  claimed table id None = (Err id_fault.InvalidId, table)
+  claimed table id (Some active) =
+      if nat_lt 0 active.holds then (Err id_fault.ObjectInUse, table)
+      else (
+        Ok (record { id = id; name = active.name }, active.object),
+        record table {
+          active = map.remove table.active id;
+          reserved = map.insert table.reserved id active.name;
+        },
+      )
+
+  -- the same, found by the identifier
+  abbrev pub claim_step : TableState T → ℕ → Result (Reserved × T) IdFault × TableState T
+  claim_step table id = claimed table id (active_at table id)
+
+  -- what becomes of an identifier that may be reserved
+  abbrev pub finalize_id_step : TableState T → ℕ → Option T → Result ℕ IdFault × TableState T
+  finalize_id_step table id value =
+      if is_reserved table id then (Ok id, finalize_step table id value) else (Err id_fault.InvalidId, table)

@@ -4,7 +4,7 @@ use Rattle.std.specs.List.{list_any}
 use Rattle.std.specs.Ordering.{nat_cmp}
 use Rattle.std.specs.Str.{bytes_eq}
 use Rattle.std.specs.FinMap as map
-use Rattle.osal_base.specs.Identifier.{type_of, slot_of}
+use Rattle.osal_base.specs.Identifier.{slot_of}
 
 -- what stands under an active identifier
 pub record Active (T : Type 0) : Type 0 where

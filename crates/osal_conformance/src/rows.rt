@@ -1,0 +1,186 @@
+//! Applications with their outputs, to the byte.
+
+use crate::fixture::{NO_FAULTS, run_text, run_words};
+use osal_base::Answer;
+use osal_machine::Call;
+use std::test::Fail;
+
+const FIRST_PATH: &str = "osal-app 1
+task main
+bin_sem_create $s \"s\" 1 -> OS_SUCCESS 0x00040001
+bin_sem_take $s check -> OS_SUCCESS
+end
+";
+
+const FIRST_PATH_REPORT: &str = "[BEGIN] 0x00010001 main
+[ PASS] 1 line 3 bin_sem_create OS_SUCCESS 0x00040001
+[ PASS] 2 line 4 bin_sem_take OS_SUCCESS
+[  END] 0x00010001 main DONE PASS 2 FAIL 0
+[TOTAL] TASKS 1 PASS 2 FAIL 0
+";
+
+#[test]
+fn each_application_has_its_output(rt: HostRuntime) -> Result<(), Fail> {
+    let rows = [
+        ("the first path", FIRST_PATH, 0, FIRST_PATH_REPORT),
+        (
+            "an empty semaphore fails its case",
+            "osal-app 1
+task main
+bin_sem_create $s \"s\" 0 -> OS_SUCCESS 0x00040001
+bin_sem_take $s check -> OS_SUCCESS
+end
+",
+            1,
+            "[BEGIN] 0x00010001 main
+[ PASS] 1 line 3 bin_sem_create OS_SUCCESS 0x00040001
+[ FAIL] 2 line 4 bin_sem_take OS_SEM_TIMEOUT expected OS_SUCCESS
+[  END] 0x00010001 main DONE PASS 1 FAIL 1
+[TOTAL] TASKS 1 PASS 1 FAIL 1
+",
+        ),
+        (
+            "a body without a line",
+            "osal-app 1\r\ntask main\r\nend",
+            0,
+            "[BEGIN] 0x00010001 main
+[  END] 0x00010001 main DONE PASS 0 FAIL 0
+[TOTAL] TASKS 1 PASS 0 FAIL 0
+",
+        ),
+        (
+            "names that are refused, and a register that was never set",
+            "osal-app 1
+task main
+bin_sem_create $s \"abcdefghijklmnopqrst\" 1 -> OS_ERR_NAME_TOO_LONG
+bin_sem_create $s \"\" 1 -> OS_ERR_INVALID_ARGUMENT 0
+bin_sem_create $s \"a\\x00\" 1 -> OS_ERR_INVALID_ARGUMENT
+bin_sem_take $s check -> OS_ERR_INVALID_ID
+bin_sem_create $s \"abcdefghijklmnopqrs\" 2 -> 0 0x00040001
+bin_sem_take $s check -> 0 \"\"
+bin_sem_take $s check -> -7
+end
+",
+            0,
+            "[BEGIN] 0x00010001 main
+[ PASS] 1 line 3 bin_sem_create OS_ERR_NAME_TOO_LONG
+[ PASS] 2 line 4 bin_sem_create OS_ERR_INVALID_ARGUMENT 0x00000000
+[ PASS] 3 line 5 bin_sem_create OS_ERR_INVALID_ARGUMENT
+[ PASS] 4 line 6 bin_sem_take OS_ERR_INVALID_ID
+[ PASS] 5 line 7 bin_sem_create OS_SUCCESS 0x00040001
+[ PASS] 6 line 8 bin_sem_take OS_SUCCESS \"\"
+[ PASS] 7 line 9 bin_sem_take OS_SEM_TIMEOUT
+[  END] 0x00010001 main DONE PASS 7 FAIL 0
+[TOTAL] TASKS 1 PASS 7 FAIL 0
+",
+        ),
+        ("the empty file", "", 2, "osal-run: line 1: header\n"),
+        ("an empty line", "\n", 2, "osal-run: line 2: header\n"),
+        (
+            "a line cut short",
+            "osal-app 1\ntask main\nbin_sem_create $s \"s\"\nend\n",
+            2,
+            "osal-run: line 3: argument\n",
+        ),
+        (
+            "a call that is not built",
+            "osal-app 1\ntask main\nqueue_create $q \"q\" 1 1\nend\n",
+            2,
+            "osal-run: line 3: unbuilt\n",
+        ),
+        (
+            "a body that is left open",
+            "osal-app 1\ntask main\nbin_sem_take $s check\n",
+            2,
+            "osal-run: line 4: end\n",
+        ),
+    ];
+    for (name, text, status, output) in rows {
+        let ran = run_text(&rt, rt.alloc(), text.as_bytes())?;
+        assert_eq!(rt; ran.status, status, "{name}");
+        assert!(rt; ran.written.as_slice() == output.as_bytes(), "{name}");
+    }
+    Ok(())
+}
+
+#[test]
+fn a_full_table_has_no_free_identifier(rt: HostRuntime) -> Result<(), Fail> {
+    let alloc = rt.alloc();
+    let mut text = String::from_str(alloc, "osal-app 1\ntask main\n")?;
+    for name in "abcdefghijklmnopqrst".chars() {
+        let line = format!(in alloc; "bin_sem_create $s \"{name}\" 0\n")?;
+        text.push_str(line.as_str())?;
+    }
+    text.push_str("bin_sem_create $s \"u\" 0 -> OS_ERR_NO_FREE_IDS\n")?;
+    text.push_str("bin_sem_create $s \"a\" 0 -> OS_ERR_NAME_TAKEN\nend\n")?;
+    let ran = run_text(&rt, alloc, text.as_str().as_bytes())?;
+    assert_eq!(rt; ran.status, 0);
+    let output = "[BEGIN] 0x00010001 main
+[ PASS] 1 line 23 bin_sem_create OS_ERR_NO_FREE_IDS
+[ PASS] 2 line 24 bin_sem_create OS_ERR_NAME_TAKEN
+[  END] 0x00010001 main DONE PASS 2 FAIL 0
+[TOTAL] TASKS 1 PASS 2 FAIL 0
+";
+    assert!(rt; ran.written.as_slice() == output.as_bytes());
+    Ok(())
+}
+
+#[test]
+fn the_journal_has_each_call_with_its_reply(rt: HostRuntime) -> Result<(), Fail> {
+    let ran = run_text(&rt, rt.alloc(), FIRST_PATH.as_bytes())?;
+    let wanted = [
+        ("task_create", 0, 0, Answer::Code(0), 65537),
+        ("checkpoint", 2, 65537, Answer::Go, 0),
+        ("bin_sem_create", 2, 65537, Answer::Code(0), 262145),
+        ("checkpoint", 2, 65537, Answer::Go, 0),
+        ("bin_sem_take", 2, 65537, Answer::Code(0), 0),
+        ("checkpoint", 2, 65537, Answer::Go, 0),
+        ("task_exit", 2, 65537, Answer::Code(0), 0),
+    ];
+    assert_eq!(rt; ran.journal.len(), 7);
+    for (entry, (name, caller, task, answer, number)) in ran
+        .journal
+        .entries()
+        .iter()
+        .zip(wanted.iter())
+    {
+        let call = match &entry.call {
+            Call::TaskCreate { .. } => "task_create",
+            Call::TaskExit => "task_exit",
+            Call::Checkpoint => "checkpoint",
+            Call::BinSemCreate { .. } => "bin_sem_create",
+            Call::BinSemTake { .. } => "bin_sem_take",
+        };
+        assert!(rt; call == *name);
+        assert_eq!(rt; entry.caller, *caller);
+        assert_eq!(rt; entry.task.raw(), *task);
+        assert_eq!(rt; entry.now.ms, 0);
+        assert!(rt; entry.reply.answer == *answer);
+        assert_eq!(rt; entry.reply.number, *number);
+        assert_eq!(rt; entry.reply.bytes.as_slice().len(), 0);
+    }
+    Ok(())
+}
+
+#[test]
+fn other_words_get_the_usage_text(rt: HostRuntime) -> Result<(), Fail> {
+    let usage = "usage: osal-run FILE | --journal FILE | --make N\n";
+    let none: [&str; 0] = [];
+    let forms = [
+        none.as_slice(),
+        ["--journal", "app"].as_slice(),
+        ["app", "--journal"].as_slice(),
+        ["--make", "2"].as_slice(),
+        ["-x"].as_slice(),
+        ["-"].as_slice(),
+        [""].as_slice(),
+        ["app", "app"].as_slice(),
+    ];
+    for words in forms {
+        let ran = run_words(&rt, rt.alloc(), words, FIRST_PATH.as_bytes(), NO_FAULTS)?;
+        assert_eq!(rt; ran.status, 2);
+        assert!(rt; ran.written.as_slice() == usage.as_bytes());
+        assert_eq!(rt; ran.journal.len(), 0);
+    }
+    Ok(())
+}

@@ -1,0 +1,193 @@
+-- One more call of the first task keeps the journal a front of a run.
+use Rattle.std.proofs.Common.{Result, Ok, Err, OnErr, ◌≡◌, ◌<◌, ◌+◌, ◌*◌, ℕ, Bool, true, List, [], ◌∷◌, ◌++◌, Option, Some, None, length, refl, sym, ap, subst, ◌∙◌, arith, is_some, cond, nat_lt}
+use Rattle.osal_base.specs.Limits.{version1}
+use Rattle.osal_base.specs.Reply.{Replied, reply_of, goes_on, refusal}
+use Rattle.osal_base.specs.declared.reply.Answer.{Answer}
+use Rattle.osal_base.specs.declared.reply.Answer.TheVariants as answer
+use Rattle.osal_base.specs.declared.status.Status.TheVariants as status
+use Rattle.osal_base.specs.declared.name.NameFault.{NameFault}
+use Rattle.osal_base.specs.Text.{Text}
+use Rattle.osal_base.specs.Name.{IsName, name_fault}
+use Rattle.osal_task.specs.declared.part.Task.{Task}
+use Rattle.osal_task.specs.Tasks.{TaskState, no_tasks, create_named, in_table, checkpoint_step}
+use Rattle.osal_idtable.specs.Objects.{create_step}
+use Rattle.osal_exec.proofs.First.{first_active, no_fault}
+use Rattle.osal_idtable.specs.Table.{active_at}
+use Rattle.osal_machine.specs.declared.call.Call.{Call}
+use Rattle.osal_machine.specs.declared.call.Call.TheVariants as call
+use Rattle.osal_machine.specs.declared.call.Entry.{Entry}
+use Rattle.osal_machine.specs.Call.{said, text_of}
+use Rattle.osal_machine.specs.Step.{MachineState, opening, step}
+use Rattle.osal_machine.specs.History.{replay, replay_from, IsLegal}
+use Rattle.osal_machine.proofs.Histories.{replay_push, legal_push}
+use Rattle.osal_script.specs.declared.app.Line.{Line}
+use Rattle.osal_script.specs.declared.app.ScriptCall.{ScriptCall}
+use Rattle.osal_script.specs.declared.app.ScriptCall.TheVariants as script
+use Rattle.osal_script.specs.declared.cursor.Phase.{Phase}
+use Rattle.osal_script.specs.declared.cursor.Phase.TheVariants as phase
+use Rattle.osal_script.specs.App.{ScriptBody}
+use Rattle.osal_script.specs.Script.{ScriptState, start_of, after, reached, next_call, call_of, line_call, after_line, phase_after_checkpoint, IsNext, IsCheckpointAnswer}
+use Rattle.osal_script.specs.Runs.{main_id, main_caller, FollowsBody, CreatesMain, IsOfMain}
+use Rattle.osal_script.proofs.Follows.{reached_push, follow_push, all_push}
+use Rattle.osal_exec.specs.Driving.{MakesEntry, AddsEntry, FollowsLast, main_state, IsRunning, IsDriving, IsPartDriven, calls_left}
+
+-- the first task's script after one more entry
+main_state_push : (body : ScriptBody) (entries : List Entry) (entry : Entry) → 0 < length entries → main_state body (entries ++ entry ∷ []) ≡ after (main_state body entries) (reply_of entry.reply)
+main_state_push body [] entry begun = absurd (omega arith)
+main_state_push body (first ∷ entries) entry begun = reached_push (start_of body) entries entry
+
+-- the body is followed by one more entry
+follows_body_push : (body : ScriptBody) (entries : List Entry) (entry : Entry) → 0 < length entries → FollowsBody body entries → IsOfMain entry → IsNext (main_state body entries) entry → FollowsBody body (entries ++ entry ∷ [])
+follows_body_push body [] entry begun follows of_main next = absurd (omega arith)
+follows_body_push body (first ∷ entries) entry begun follows of_main next = (
+  follows.0,
+  record {
+    callers = all_push IsOfMain entries entry follows.1.callers of_main;
+    script = follow_push (start_of body) entries entry follows.1.script next;
+  },
+)
+
+-- what the first task's next call does: a checkpoint goes on, and the task stays active until its exit
+pub record Goes (script : ScriptState) (state left : MachineState) (replied : Replied) : Type 0 where
+  pub answered : IsCheckpointAnswer script.phase replied.answer
+  pub running : IsRunning (after script replied).phase left
+
+-- an active task's checkpoint goes on
+checkpoint_goes : (tasks : TaskState) (b : Bool) → b ≡ true → ◌≡◌ {A = Replied × TaskState} (cond b (goes_on, tasks) (refusal status.ErrInvalidId, tasks)) (goes_on, tasks)
+checkpoint_goes tasks b active = ap (λ v. cond {A = Replied × TaskState} v (goes_on, tasks) (refusal status.ErrInvalidId, tasks)) active
+
+-- a checkpoint before a line or the exit
+goes_before : (lines : List Line) (registers : List ℕ) (state : MachineState) (made : Call) → is_some (active_at state.tasks.table main_id) ≡ true → Some call.Checkpoint ≡ Some (said made) → Goes (record { phase = phase.Before; lines = lines; registers = registers }) state (step state main_id made).1 (step state main_id made).0
+goes_before lines registers state (call.TaskCreate name body stack priority) active is = absurd (cc)
+goes_before lines registers state call.TaskExit active is = absurd (cc)
+goes_before lines registers state (call.BinSemCreate name value) active is = absurd (cc)
+goes_before lines registers state (call.BinSemTake id wait) active is = absurd (cc)
+goes_before lines registers state call.Checkpoint active is =
+    let e = checkpoint_goes state.tasks (is_some (active_at state.tasks.table main_id)) active in
+    record {
+      answered = subst (λ (r : Replied × TaskState). IsCheckpointAnswer phase.Before r.0.answer) (sym e) tt;
+      running = subst (λ (r : Replied × TaskState). IsRunning (after (record { phase = phase.Before; lines = lines; registers = registers }) r.0).phase (record state { tasks = r.1 })) (sym e) active;
+    }
+
+-- a line leaves the task active
+goes_line : (line : ScriptCall) (number : ℕ) (lines : List Line) (registers : List ℕ) (state : MachineState) (made : Call) → is_some (active_at state.tasks.table main_id) ≡ true → Some (call_of line registers) ≡ Some (said made) → is_some (active_at (step state main_id made).1.tasks.table main_id) ≡ true
+goes_line (script.BinSemCreate register name value) number lines registers state (call.BinSemCreate other initial) active is = active
+goes_line (script.BinSemCreate register name value) number lines registers state (call.TaskCreate other body stack priority) active is = absurd (cc)
+goes_line (script.BinSemCreate register name value) number lines registers state call.TaskExit active is = absurd (cc)
+goes_line (script.BinSemCreate register name value) number lines registers state call.Checkpoint active is = absurd (cc)
+goes_line (script.BinSemCreate register name value) number lines registers state (call.BinSemTake id wait) active is = absurd (cc)
+goes_line (script.BinSemTake id) number lines registers state (call.BinSemTake other wait) active is = active
+goes_line (script.BinSemTake id) number lines registers state (call.TaskCreate other body stack priority) active is = absurd (cc)
+goes_line (script.BinSemTake id) number lines registers state call.TaskExit active is = absurd (cc)
+goes_line (script.BinSemTake id) number lines registers state call.Checkpoint active is = absurd (cc)
+goes_line (script.BinSemTake id) number lines registers state (call.BinSemCreate other initial) active is = absurd (cc)
+
+-- a line or the exit
+goes_at : (lines : List Line) (registers : List ℕ) (state : MachineState) (made : Call) → is_some (active_at state.tasks.table main_id) ≡ true → Some (line_call lines registers) ≡ Some (said made) → Goes (record { phase = phase.At; lines = lines; registers = registers }) state (step state main_id made).1 (step state main_id made).0
+goes_at [] registers state made active is = record { answered = tt; running = tt }
+goes_at (line ∷ lines) registers state made active is =
+    record { answered = tt; running = goes_line line.call line.number lines registers state made active is }
+
+-- the next call of a script
+goes_next : (at : Phase) (lines : List Line) (registers : List ℕ) (state : MachineState) (made : Call) → IsRunning at state → next_call (record { phase = at; lines = lines; registers = registers }) ≡ Some (said made) → Goes (record { phase = at; lines = lines; registers = registers }) state (step state main_id made).1 (step state main_id made).0
+goes_next phase.Before lines registers state made running is = goes_before lines registers state made running is
+goes_next phase.At lines registers state made running is = goes_at lines registers state made running is
+goes_next phase.Ended lines registers state made running is = absurd (cc)
+
+-- the journal with the entry of the script's next call is driven as well
+pub driving_more : (body : ScriptBody) (entries : List Entry) (state left : MachineState) (script : ScriptState) (made : Call) (entry : Entry) → IsDriving body entries state script → next_call script ≡ Some (said made) → MakesEntry main_caller main_id made state left entry → IsDriving body (entries ++ entry ∷ []) left (after script (reply_of entry.reply))
+driving_more body entries state left script made entry driving is makes =
+    let goes = goes_next script.phase script.lines script.registers state made driving.running is in
+    let said_same : said entry.call ≡ said made = ap said makes.of_call in
+    let step_same : step (replay version1 entries) entry.task entry.call ≡ step state main_id made = ap (λ s. step s entry.task entry.call) (sym driving.replayed) ∙ ap (λ t. step state t entry.call) makes.of_task ∙ ap (λ c. step state main_id c) makes.of_call in
+    record {
+      legal = legal_push (opening version1) entries entry driving.legal (makes.replied ∙ sym (ap (λ (r : Replied × MachineState). r.0) step_same));
+      replayed = makes.left ∙ sym (replay_push (opening version1) entries entry ∙ ap (λ (r : Replied × MachineState). r.1) step_same);
+      follows = follows_body_push body entries entry driving.begun driving.follows (record { caller = makes.by_caller; task = makes.of_task; now = makes.at_start }) (subst (λ s. IsNext s entry) driving.reached (record {
+        call = is ∙ ap Some (sym said_same);
+        answer = subst (λ (r : Replied). IsCheckpointAnswer script.phase r.answer) (sym makes.replied) goes.answered;
+      }));
+      begun = grind arith;
+      reached = ap (λ s. after s (reply_of entry.reply)) driving.reached ∙ sym (main_state_push body entries entry driving.begun);
+      running = subst (λ (r : Replied). IsRunning (after script r).phase left) (sym makes.replied) (subst (λ s. IsRunning (after script (step state main_id made).0).phase s) (sym makes.left) goes.running);
+    }
+
+-- a checkpoint leaves fewer calls, whatever its answer
+fall_before : (a : Answer) (n : ℕ) → calls_left (phase_after_checkpoint a) n < 2 * n + 2
+fall_before (answer.Code code) n = omega arith
+fall_before answer.Waits n = omega arith
+fall_before answer.Go n = omega arith
+fall_before answer.Deleted n = omega arith
+
+-- a line or the exit leaves fewer calls
+fall_at : (lines : List Line) (registers : List ℕ) (replied : Replied) → calls_left (after_line lines registers replied).phase (length (after_line lines registers replied).lines) < 2 * length lines + 1
+fall_at [] registers replied = omega arith
+fall_at (line ∷ lines) registers replied = omega arith
+
+-- each call in a phase leaves fewer
+fall_in : (at : Phase) (lines : List Line) (registers : List ℕ) (made : Call) (replied : Replied) → next_call (record { phase = at; lines = lines; registers = registers }) ≡ Some (said made) → calls_left (after (record { phase = at; lines = lines; registers = registers }) replied).phase (length (after (record { phase = at; lines = lines; registers = registers }) replied).lines) < calls_left at (length lines)
+fall_in phase.Before lines registers made replied is = fall_before replied.answer (length lines)
+fall_in phase.At lines registers made replied is = fall_at lines registers replied
+fall_in phase.Ended lines registers made replied is = absurd (cc)
+
+-- each call brings the script nearer to its end
+pub calls_fall : (script : ScriptState) (made : Call) (replied : Replied) → next_call script ≡ Some (said made) → calls_left (after script replied).phase (length (after script replied).lines) < calls_left script.phase (length script.lines)
+calls_fall script made replied is = fall_in script.phase script.lines script.registers made replied is
+
+module _ (body : ScriptBody) (old new : List Entry) (state left : MachineState) (from : ScriptState) (made : Call) (task : ℕ) (is_main : task ≡ main_id) (driving : IsDriving body old state from) (next : next_call from ≡ Some (said made)) (adds : AddsEntry main_caller task made state left old new) where
+  -- the entry that was added is the first task's
+  of_main : MakesEntry main_caller main_id made state left adds.0
+  of_main = subst (λ t. MakesEntry main_caller t made state left adds.0) is_main adds.2
+
+  -- the journal with it is driven
+  more : IsDriving body new left (after from (reply_of adds.0.reply))
+  more = subst (λ entries. IsDriving body entries left (after from (reply_of adds.0.reply))) (sym adds.1) (driving_more body old state left from made adds.0 driving next of_main)
+
+  -- the journal after a turn is driven
+  pub turn_driving : (to : ScriptState) → FollowsLast new from to → IsDriving body new left to
+  turn_driving to follows = subst (λ s. IsDriving body new left s) (sym (follows old adds.0 adds.1)) more
+
+  -- a turn brings the script nearer to its end
+  pub turn_fewer : (to : ScriptState) → FollowsLast new from to → calls_left to.phase (length to.lines) < calls_left from.phase (length from.lines)
+  turn_fewer to follows = subst (λ s. calls_left s.phase (length s.lines) < calls_left from.phase (length from.lines)) (sym (follows old adds.0 adds.1)) (calls_fall from made (reply_of adds.0.reply) next)
+
+  -- the journal after a turn is a front of a run, also where nothing comes next
+  pub turn_part : IsPartDriven body new
+  turn_part = record { legal = more.legal; follows = more.follows }
+
+-- a fact on the table after a create holds where the name has no fault
+create_under : (tasks : TaskState) (name : List ℕ) (task : Task) (fault : Option NameFault) → task.priority ≡ 0 → fault ≡ None → is_some (active_at (create_step tasks.table name task).1 main_id) ≡ true → is_some (active_at (create_named tasks name task fault).1.table main_id) ≡ true
+create_under tasks name task fault low none active =
+    ap (λ f. is_some (active_at (create_named tasks name task f).1.table main_id)) none
+    ∙ ap (λ p. is_some (active_at (cond {A = Replied × TaskState} (nat_lt 255 p) (refusal status.ErrInvalidPriority, tasks) (in_table (create_step tasks.table name task))).1.table main_id)) low
+    ∙ active
+
+-- a journal of the first entry alone is driven
+pub begins : (body : ScriptBody) (name : Text) (old new : List Entry) (state left : MachineState) → IsName body.name → name.bytes ≡ body.name → state ≡ opening version1 → old ≡ [] → AddsEntry 0 0 (call.TaskCreate name 0 0 0) state left old new → IsDriving body new left (start_of body)
+begins body name old new state left is_name same opened empty adds =
+    let first = adds.0 in
+    let makes : MakesEntry 0 0 (call.TaskCreate name 0 0 0) (opening version1) left first = subst (λ s. MakesEntry 0 0 (call.TaskCreate name 0 0 0) s left first) opened adds.2 in
+    let whole : first ∷ [] ≡ new = sym (adds.1 ∙ ap (λ es. es ++ first ∷ []) empty) in
+    let step_same : step (opening version1) first.task first.call ≡ step (opening version1) 0 (call.TaskCreate name 0 0 0) = ap (λ t. step (opening version1) t first.call) makes.of_task ∙ ap (λ c. step (opening version1) 0 c) makes.of_call in
+    let active : is_some (active_at (step (opening version1) 0 (call.TaskCreate name 0 0 0)).1.tasks.table main_id) ≡ true = create_under (no_tasks version1) name.bytes (record { body = 0; stack = 0; priority = 0 }) (name_fault name.bytes) refl (no_fault name.bytes (subst IsName (sym same) is_name)) (first_active Task name.bytes (record { body = 0; stack = 0; priority = 0 })) in
+    subst (λ entries. IsDriving body entries left (start_of body)) whole (record {
+      legal = (makes.replied ∙ sym (ap (λ (r : Replied × MachineState). r.0) step_same), tt);
+      replayed = makes.left ∙ sym (ap (λ (r : Replied × MachineState). r.1) step_same);
+      follows = (
+        record {
+          caller = makes.by_caller;
+          task = makes.of_task;
+          now = makes.at_start;
+          call = ap said makes.of_call ∙ ap (λ bytes. call.TaskCreate (text_of bytes) 0 0 0) same;
+        },
+        record { callers = tt; script = tt },
+      );
+      begun = omega arith;
+      reached = refl;
+      running = subst (λ s. is_some (active_at s.tasks.table main_id) ≡ true) (sym makes.left) active;
+    })
+
+-- what always holds holds at an error
+pub on_err_always : {T E P : Type 0} (r : Result T E) → P → OnErr r P
+on_err_always (Ok x) p = tt
+on_err_always (Err e) p = p

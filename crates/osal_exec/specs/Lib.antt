@@ -1,0 +1,4 @@
+pub use Rattle.osal_script.specs.App
+pub use Rattle.osal_script.specs.Script
+pub use Rattle.osal_script.specs.Runs
+pub mod Driving

@@ -1,0 +1,8 @@
+//! The driver: it runs an application's tasks on the machine and keeps the journal.
+#![tactic(auto)]
+
+mod driver;
+mod gates;
+
+pub use driver::{Outcome, drive};
+pub use gates::{FreeGate, Gate};

@@ -1,0 +1,13 @@
+pub mod Course
+pub mod Keyed
+pub mod Placed
+pub mod Lone
+pub mod Seen
+pub mod Changed
+pub mod Moves
+pub mod Steps
+pub mod Holding
+pub mod Looks
+pub mod Serials
+pub mod WellFormed
+pub mod Written

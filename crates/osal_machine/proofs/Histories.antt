@@ -1,0 +1,17 @@
+-- A legal history goes on by one entry.
+use Rattle.std.proofs.Common.{◌≡◌, List, [], ◌∷◌, ◌++◌, refl}
+use Rattle.osal_base.specs.Reply.{reply_of}
+use Rattle.osal_machine.specs.declared.call.Entry.{Entry}
+use Rattle.osal_machine.specs.Step.{MachineState, step}
+use Rattle.osal_machine.specs.History.{after_entry, replay_from, IsLegalFrom}
+
+-- the state after one more entry
+pub replay_push : (state : MachineState) (entries : List Entry) (entry : Entry) → replay_from state (entries ++ entry ∷ []) ≡ after_entry (replay_from state entries) entry
+replay_push state [] entry = refl
+replay_push state (first ∷ entries) entry = replay_push (after_entry state first) entries entry
+
+-- an entry with the machine's reply keeps the history legal
+pub legal_push : (state : MachineState) (entries : List Entry) (entry : Entry) → IsLegalFrom state entries → reply_of entry.reply ≡ (step (replay_from state entries) entry.task entry.call).0 → IsLegalFrom state (entries ++ entry ∷ [])
+legal_push state [] entry legal replied = (replied, tt)
+legal_push state (first ∷ entries) entry legal replied =
+    (legal.0, legal_push (after_entry state first) entries entry legal.1 replied)

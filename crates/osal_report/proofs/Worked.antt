@@ -1,0 +1,24 @@
+-- Texts that were worked out by hand: the definitions give them.
+use Rattle.std.proofs.Common.{◌≡◌, [], ◌∷◌, refl}
+use Rattle.std.specs.Prelude.{codes, negsuc}
+use Rattle.osal_report.specs.Spelling.{id_text, code_text, quoted}
+
+-- an identifier has eight digits in lower case
+pub id_of_main : id_text 65537 ≡ codes "0x00010001"
+unfolding id_text
+id_of_main = refl
+
+-- letters are in lower case
+pub id_of_letters : id_text 703710 ≡ codes "0x000abcde"
+unfolding id_text
+id_of_letters = refl
+
+-- a code of the table is spelled by its name
+pub code_of_timeout : code_text (negsuc 6) ≡ codes "OS_SEM_TIMEOUT"
+unfolding code_text
+code_of_timeout = refl
+
+-- quotation marks and backslashes follow a backslash, and other bytes are hexadecimal
+pub quoted_bytes : quoted (97 ∷ 34 ∷ 92 ∷ 0 ∷ 255 ∷ []) ≡ codes "\"a\\\"\\\\\\x00\\xff\""
+unfolding quoted
+quoted_bytes = refl

@@ -1,0 +1,199 @@
+//! The cases of a segment.
+ghost use Rattle.std.specs.Prelude.{◌≡◌, ◌++◌, IfOk, OnOk, [], ◌∷◌, codes, if◌then◌else◌};
+ghost use Rattle.std.specs.Fmt.{decimal};
+ghost use Rattle.osal_report.specs.Spelling.{code_text};
+ghost use Rattle.osal_base.specs.Reply.{reply_of};
+ghost use Rattle.osal_report.specs.Cases.{call_name as name_of_call, gives_id as gives, number_text, is_code as is_code_of, is_value as is_value_of, passes as passes_case, got_value, wanted_value, case_text, IsCaseAt};
+
+use crate::spelling::{push_answer, push_bytes, push_code, push_decimal, push_id, push_quoted};
+use osal_base::{Answer, OutOfMemory, Reply};
+use osal_machine::Entry;
+use osal_script::{Cursor, Expect, Line, Phase, ScriptCall, Value};
+use std::alloc::Global;
+
+/// The name of a call as a line writes it.
+fn call_name(call: &ScriptCall) -> &'static [u8]
+    ensures { result.now ≡ name_of_call call.now }
+{
+    match call {
+        ScriptCall::BinSemCreate { .. } => b"bin_sem_create",
+        ScriptCall::BinSemTake { .. } => b"bin_sem_take",
+    }
+}
+
+/// Whether a call gives an identifier.
+fn gives_id(call: &ScriptCall) -> bool
+    ensures { result ≡ gives call.now }
+{
+    match call {
+        ScriptCall::BinSemCreate { .. } => true,
+        ScriptCall::BinSemTake { .. } => false,
+    }
+}
+
+fn push_number(
+    alloc: Global,
+    out: &mut Vec<u8>,
+    call: &ScriptCall,
+    number: u64,
+) -> Result<(), OutOfMemory>
+    ensures { OnOk result (out.new.items ≡ out.old.items ++ number_text call.now number) }
+{
+    if gives_id(call) && number < 1 << 32 {
+        push_id(out, number)
+    } else {
+        push_decimal(alloc, out, number)
+    }
+}
+
+fn is_code(code: i32, answer: Answer) -> bool
+    ensures { result ≡ is_code_of code answer }
+{
+    match answer {
+        Answer::Code(other) => other == code,
+        Answer::Waits | Answer::Go | Answer::Deleted => false,
+    }
+}
+
+fn is_value(value: &Option<Value>, reply: &Reply) -> bool
+    ensures { result ≡ is_value_of value.now (reply_of reply.now) }
+{
+    match value {
+        None => true,
+        Some(Value::Number(number)) => reply.number == *number,
+        Some(Value::Text(text)) => reply.bytes.as_slice() == text.as_slice(),
+    }
+}
+
+/// Whether a line's reply is what it expects.
+pub(crate) fn passes(line: &Line, expect: &Expect, reply: &Reply) -> bool
+    ensures { result
+        ≡ passes_case (record { line = line.now; expect = expect.now; reply = reply_of reply.now }) }
+{
+    is_code(expect.code, reply.answer) && is_value(&expect.value, reply)
+}
+
+fn push_got(
+    alloc: Global,
+    out: &mut Vec<u8>,
+    call: &ScriptCall,
+    value: &Option<Value>,
+    reply: &Reply,
+) -> Result<(), OutOfMemory>
+    ensures { OnOk result (out.new.items
+        ≡ out.old.items ++ got_value call.now value.now (reply_of reply.now)) }
+{
+    match value {
+        None => Ok(()),
+        Some(Value::Number(_)) => {
+            push_bytes(out, b" ")?;
+            push_number(alloc, out, call, reply.number)
+        }
+        Some(Value::Text(_)) => {
+            push_bytes(out, b" ")?;
+            push_quoted(out, reply.bytes.as_slice())
+        }
+    }
+}
+
+fn push_wanted(
+    alloc: Global,
+    out: &mut Vec<u8>,
+    call: &ScriptCall,
+    value: &Option<Value>,
+) -> Result<(), OutOfMemory>
+    ensures { OnOk result (out.new.items ≡ out.old.items ++ wanted_value call.now value.now) }
+{
+    match value {
+        None => Ok(()),
+        Some(Value::Number(number)) => {
+            push_bytes(out, b" ")?;
+            push_number(alloc, out, call, *number)
+        }
+        Some(Value::Text(text)) => {
+            push_bytes(out, b" ")?;
+            push_quoted(out, text.as_slice())
+        }
+    }
+}
+
+fn push_case_head(
+    alloc: Global,
+    out: &mut Vec<u8>,
+    number: u64,
+    line: &Line,
+    pass: bool,
+) -> Result<(), OutOfMemory>
+    ensures { OnOk result (out.new.items
+        ≡ out.old.items ++ ((if pass then codes "[ PASS] " else codes "[ FAIL] ")
+        ++ (decimal number ++ (codes " line " ++ (decimal line.now.number
+        ++ (32 ∷ [] ++ (name_of_call line.now.call ++ 32 ∷ []))))))) }
+{
+    push_bytes(out, if pass { b"[ PASS] " } else { b"[ FAIL] " })?;
+    push_decimal(alloc, out, number)?;
+    push_bytes(out, b" line ")?;
+    push_decimal(alloc, out, u64::from(line.number))?;
+    push_bytes(out, b" ")?;
+    push_bytes(out, call_name(&line.call))?;
+    push_bytes(out, b" ")?;
+    Ok(())
+}
+
+/// Appends what was wanted, where it was not got.
+fn push_missed(
+    alloc: Global,
+    out: &mut Vec<u8>,
+    line: &Line,
+    expect: &Expect,
+    pass: bool,
+) -> Result<(), OutOfMemory>
+    ensures { OnOk result (out.new.items ≡ out.old.items ++ (if pass then []
+        else codes " expected "
+        ++ (code_text expect.now.code ++ wanted_value line.now.call expect.now.value))) }
+{
+    if pass {
+        return Ok(());
+    }
+    push_bytes(out, b" expected ")?;
+    push_code(alloc, out, expect.code)?;
+    push_wanted(alloc, out, &line.call, &expect.value)?;
+    Ok(())
+}
+
+/// Appends the line of a case, and says whether it passes.
+#[tactic(auto, unfolding(crate::specs::Cases::case_text))]
+pub(crate) fn push_case(
+    alloc: Global,
+    out: &mut Vec<u8>,
+    number: u64,
+    line: &Line,
+    expect: &Expect,
+    reply: &Reply,
+) -> Result<bool, OutOfMemory>
+    ensures text { OnOk result (out.new.items ≡ out.old.items ++ case_text number
+        (record { line = line.now; expect = expect.now; reply = reply_of reply.now })) }
+    ensures pass { IfOk result (λ pass. pass ≡ passes_case
+        (record { line = line.now; expect = expect.now; reply = reply_of reply.now })) }
+{
+    let pass = passes(line, expect, reply);
+    push_case_head(alloc, out, number, line, pass)?;
+    push_answer(alloc, out, reply.answer)?;
+    push_got(alloc, out, &line.call, &expect.value, reply)?;
+    push_missed(alloc, out, line, expect, pass)?;
+    push_bytes(out, b"\n")?;
+    Ok(pass)
+}
+
+/// The line that an entry answers and what it expects, where the entry makes a case.
+pub(crate) fn case_at<'a>(cursor: &Cursor<'a>) -> Option<(&'a Line, &'a Expect)>
+    ensures { IsCaseAt cursor.now.phase cursor.now.lines result }
+{
+    if cursor.phase() != Phase::At {
+        return None;
+    }
+    let line = cursor.line()?;
+    match &line.expect {
+        Some(expect) => Some((line, expect)),
+        None => None,
+    }
+}

@@ -1,0 +1,61 @@
+-- What stands before a run: the checks, in their order, and the text of each refusal.
+use Rattle.std.specs.Prelude.{◌==◌, ◌++◌, List, [], ◌∷◌, ℕ, Option, Some, None, Result, Ok, Err, codes, length, nat_lt, if◌then◌else◌}
+use Rattle.std.specs.Fmt.{decimal}
+use Rattle.osal_base.specs.Shelf.{Files}
+use Rattle.osal_script.specs.declared.fault.AppFault.{AppFault}
+use Rattle.osal_run.specs.declared.refusal.Refusal.{Refusal}
+use Rattle.osal_run.specs.declared.refusal.Refusal.TheVariants as refusal
+use Rattle.osal_script.specs.App.{Application}
+use Rattle.osal_script.specs.Fault.{kind_text}
+use Rattle.osal_script.specs.Reading.{reading_of}
+
+-- the most bytes of an application's file
+abbrev pub file_limit : ℕ
+file_limit = 1048576
+
+-- a word that names a file: it is not empty and does not begin with a dash
+abbrev pub file_name : List ℕ → Option (List ℕ)
+file_name [] = None
+file_name (byte ∷ bytes) = if byte == 45 then None else Some (byte ∷ bytes)
+
+-- the file that the words name: they are one word that names a file
+abbrev pub file_of : List (List ℕ) → Option (List ℕ)
+file_of [] = None
+file_of (word ∷ []) = file_name word
+file_of (word ∷ another ∷ words) = None
+
+-- what the checks find: the first refusal, or an application
+pub data Check : Type 0 where
+  Refused : Refusal → Check
+  Accepted : Application → Check
+
+-- the check of a text
+abbrev pub check_reading : Result Application AppFault → Check
+check_reading (Ok app) = Accepted app
+check_reading (Err fault) = Refused (refusal.Unread fault)
+
+-- the check of a file that is there, or is not
+abbrev pub check_file : Option (List ℕ) → Check
+check_file None = Refused refusal.Missing
+check_file (Some bytes) = if nat_lt file_limit (length bytes) then Refused refusal.Larger else check_reading (reading_of bytes)
+
+-- the check of the file that the words name
+abbrev pub check_name : Files → Option (List ℕ) → Check
+check_name files None = Refused refusal.Usage
+check_name files (Some name) = check_file (files name)
+
+-- the first check that refuses, or the application
+abbrev pub check_of : Files → List (List ℕ) → Check
+check_of files words = check_name files (file_of words)
+
+-- the text of a refused file: the first bad line, and the rule that it breaks
+abbrev pub fault_text : AppFault → List ℕ
+fault_text fault =
+    codes "osal-run: line " ++ (decimal fault.line ++ (codes ": " ++ (kind_text fault.kind ++ codes "\n")))
+
+-- the text of a refusal
+unfoldable pub refusal_text : Refusal → List ℕ
+refusal_text refusal.Usage = codes "usage: osal-run FILE | --journal FILE | --make N\n"
+refusal_text refusal.Missing = codes "osal-run: no such file\n"
+refusal_text refusal.Larger = codes "osal-run: file is larger than 1048576 bytes\n"
+refusal_text (refusal.Unread fault) = fault_text fault

@@ -1,0 +1,36 @@
+//! Exit statuses.
+ghost use Rattle.std.specs.Prelude.{◌≡◌};
+ghost use Rattle.osal_run.specs.Outcome.{exit_number};
+
+/// How a run ended, as its exit status says.
+#[derive(Clone, Copy, Debug, PartialEq, Eq)]
+pub enum Exit {
+    /// Each case passed.
+    Passed,
+    /// A case failed.
+    Failed,
+    /// The words or the application were refused.
+    Refused,
+    /// The source failed.
+    SourceFault,
+    /// The sink failed.
+    SinkFault,
+    /// There was no memory to go on.
+    NoMemory,
+}
+
+impl Exit {
+    /// The number of the status.
+    pub fn number(self) -> u8
+        ensures { result ≡ exit_number self }
+    {
+        match self {
+            Exit::Passed => 0,
+            Exit::Failed => 1,
+            Exit::Refused => 2,
+            Exit::SourceFault => 4,
+            Exit::SinkFault => 5,
+            Exit::NoMemory => 6,
+        }
+    }
+}

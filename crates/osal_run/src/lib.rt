@@ -1,0 +1,11 @@
+//! The runner: from the words of a command line to an exit status.
+#![tactic(auto)]
+
+mod exit;
+mod load;
+mod refusal;
+mod runner;
+
+pub use exit::Exit;
+pub use refusal::Refusal;
+pub use runner::run;

@@ -1,0 +1,160 @@
+//! From the words to an application: the checks before a run, in their order.
+ghost use Rattle.std.specs.Prelude.{◌≡◌, ◌<◌, ◌≤◌, ◌+◌, map, length, IfOk, Err, string_bytes, option_copied};
+ghost use Rattle.osal_base.specs.Causes.{Rose, WhereTold};
+ghost use Rattle.osal_run.specs.Checks.{file_name as name_in, file_of};
+ghost use Rattle.osal_run.specs.Loading.{IfTold, ReadsPiece, ReadsFile, LoadsAs, LoadsFile, seen_bytes};
+ghost use Rattle.osal_run.specs.declared.load.ReadFault.TheVariants as read_fault;
+ghost use Rattle.osal_run.specs.declared.load.Stop.TheVariants as stop;
+
+use crate::Refusal;
+use osal_base::{Opened, OutOfMemory, ReadFailed, Shelf};
+use osal_script::{App, ParseFault, parse};
+use std::alloc::Global;
+
+/// The most bytes of an application's file.
+const FILE_LIMIT: usize = 1_048_576;
+
+/// How many bytes are asked for at once.
+const CHUNK: usize = 8192;
+
+/// Why a file was not read.
+#[derive(Clone, Copy, Debug, PartialEq, Eq)]
+pub enum ReadFault {
+    /// It has more bytes than an application may have.
+    Larger,
+    /// The source failed.
+    Source,
+    /// There was no memory for it.
+    Memory,
+}
+
+/// Why no application was loaded.
+#[derive(Clone, Copy, Debug, PartialEq, Eq)]
+pub enum Stop {
+    /// A check has refused.
+    Refused(Refusal),
+    /// The source failed.
+    Source,
+    /// There was no memory to go on.
+    Memory,
+}
+
+/// The file that the words name: they are one word, which is not empty and does not begin with `-`.
+fn file_word(words: &[String]) -> Option<&str>
+    ensures { option_copied result ≡ file_of (map string_bytes words.now) }
+{
+    match words {
+        [word] => file_name(word.as_str()),
+        _ => None,
+    }
+}
+
+fn file_name(word: &str) -> Option<&str>
+    ensures { option_copied result ≡ name_in word.now }
+{
+    match word.as_bytes() {
+        [] | [b'-', ..] => None,
+        _ => Some(word),
+    }
+}
+
+/// Reads one more piece of the open file behind what was read; 0 means its end.
+fn read_piece<S: Shelf>(
+    shelf: &mut S,
+    bytes: &mut Vec<u8>,
+    piece: &mut [u8],
+) -> Result<usize, ReadFault>
+    requires { 0 < length piece.old }
+    ensures count { IfOk result (λ n. n ≤ length piece.old) }
+    ensures grown { IfOk result (λ n. length bytes.new.items ≡ length bytes.old.items + n) }
+    ensures told { IfOk result (λ n. WhereTold (S.content shelf.old) (S.content shelf.new) (ReadsPiece n bytes.old.items bytes.new.items)) }
+    ensures larger { result ≡ Err read_fault.Larger → ⊥ }
+    ensures later { S.faults shelf.old ≤ S.faults shelf.new }
+    ensures cause { result ≡ Err read_fault.Source → Rose (S.faults shelf.old) (S.faults shelf.new) }
+{
+    let n = match shelf.read(piece) {
+        Ok(n) => n,
+        Err(ReadFailed) => return Err(ReadFault::Source),
+    };
+    match bytes.extend_from_slice(&piece[..n]) {
+        Ok(()) => Ok(n),
+        Err(_) => Err(ReadFault::Memory),
+    }
+}
+
+/// Reads a piece of this length, or one byte where a longer piece would pass the limit.
+fn read_within<S: Shelf>(
+    shelf: &mut S,
+    bytes: &mut Vec<u8>,
+    chunk: &mut [u8],
+) -> Result<usize, ReadFault>
+    requires chunk { 0 < length chunk.old }
+    requires room { length bytes.old.items ≤ 1048576 }
+    ensures within { IfOk result (λ n. length bytes.new.items ≤ 1048577) }
+    ensures grown { IfOk result (λ n. length bytes.new.items ≡ length bytes.old.items + n) }
+    ensures told { IfOk result (λ n. WhereTold (S.content shelf.old) (S.content shelf.new) (ReadsPiece n bytes.old.items bytes.new.items)) }
+    ensures larger { result ≡ Err read_fault.Larger → ⊥ }
+    ensures later { S.faults shelf.old ≤ S.faults shelf.new }
+    ensures cause { result ≡ Err read_fault.Source → Rose (S.faults shelf.old) (S.faults shelf.new) }
+{
+    if bytes.len() + chunk.len() <= FILE_LIMIT {
+        read_piece(shelf, bytes, chunk)
+    } else {
+        let mut one = [0];
+        read_piece(shelf, bytes, &mut one)
+    }
+}
+
+/// Reads the open file to its end, at least one byte a turn, and at most one byte more than an application may have.
+fn read_file<S: Shelf>(alloc: Global, shelf: &mut S) -> Result<Vec<u8>, ReadFault>
+    ensures told { IfTold (S.content shelf.old) (ReadsFile (seen_bytes result)) }
+    ensures short { IfOk result (λ bytes. length bytes.items ≤ 1048576) }
+    ensures later { S.faults shelf.old ≤ S.faults shelf.new }
+    ensures cause { result ≡ Err read_fault.Source → Rose (S.faults shelf.old) (S.faults shelf.new) }
+{
+    let mut bytes = Vec::new(alloc);
+    let mut chunk = [0; CHUNK];
+    while bytes.len() <= FILE_LIMIT {
+        let n = read_within(shelf, &mut bytes, &mut chunk)?;
+        if n == 0 {
+            return Ok(bytes);
+        }
+    }
+    Err(ReadFault::Larger)
+}
+
+/// Loads the application that the words name: the words, the opening, the reading, the size, the text.
+pub(crate) fn load<S: Shelf>(alloc: Global, words: &[String], shelf: &mut S) -> Result<App, Stop>
+    ensures told { IfTold (S.content shelf.old) (LoadsAs result (map string_bytes words.now)) }
+    ensures later { S.faults shelf.old ≤ S.faults shelf.new }
+    ensures cause { result ≡ Err stop.Source → Rose (S.faults shelf.old) (S.faults shelf.new) }
+{
+    let Some(name) = file_word(words) else {
+        return Err(Stop::Refused(Refusal::Usage));
+    };
+    match shelf.open(alloc, name) {
+        Ok(Opened::Ready) => load_open(alloc, shelf),
+        Ok(Opened::NotFound) => Err(Stop::Refused(Refusal::Missing)),
+        Ok(Opened::Failed) => Err(Stop::Source),
+        Err(OutOfMemory) => Err(Stop::Memory),
+    }
+}
+
+/// Loads the application in the open file.
+fn load_open<S: Shelf>(alloc: Global, shelf: &mut S) -> Result<App, Stop>
+    ensures told { IfTold (S.content shelf.old) (LoadsFile result) }
+    ensures later { S.faults shelf.old ≤ S.faults shelf.new }
+    ensures cause { result ≡ Err stop.Source → Rose (S.faults shelf.old) (S.faults shelf.new) }
+{
+    let bytes = match read_file(alloc, shelf) {
+        Ok(bytes) => bytes,
+        Err(ReadFault::Larger) => return Err(Stop::Refused(Refusal::Larger)),
+        Err(ReadFault::Source) => return Err(Stop::Source),
+        Err(ReadFault::Memory) => return Err(Stop::Memory),
+    };
+    match parse(alloc, &bytes) {
+        Ok(app) => Ok(app),
+        Err(ParseFault::Bad(fault)) => Err(Stop::Refused(Refusal::Unread(fault))),
+        Err(ParseFault::OutOfMemory) => Err(Stop::Memory),
+    }
+}

@@ -1,0 +1,7 @@
+pub mod Digits
+pub mod Lines
+pub mod Splitting
+pub mod Quotes
+pub mod Naming
+pub mod Arrows
+pub mod Follows

@@ -1,0 +1,16 @@
+pub use Rattle.osal_machine.specs.Call
+pub use Rattle.osal_machine.specs.Step
+pub use Rattle.osal_machine.specs.Journal
+pub use Rattle.osal_machine.specs.History
+pub mod App
+pub mod Script
+pub mod Runs
+pub mod Words
+pub mod Values
+pub mod Grammar
+pub mod Vocabulary
+pub mod Reading
+pub mod Turns
+pub mod Inside
+pub mod Outcome
+pub mod Fault

@@ -1,0 +1,101 @@
+//! The binary semaphore part.
+ghost use Rattle.std.specs.Prelude.{◌≡◌, IsOk, IfOk};
+ghost use Rattle.osal_base.specs.Limits.{Fits};
+ghost use Rattle.osal_base.specs.Reply.{replied};
+ghost use Rattle.osal_base.specs.Time.{IsCheck};
+ghost use Rattle.osal_sem.specs.Binary.{no_bin_sems, bin_sem_create_step, bin_sem_take_step};
+
+use osal_base::{
+    Ack, Bytes, Limits, Moment, Name, ObjType, OsalId, OutOfMemory, Room, Status, Timeout,
+};
+use osal_idtable::{Table, create, status_of_name};
+use std::alloc::Global;
+use std::marker::Model;
+
+/// A binary semaphore, which is full or empty (`OS_SEM_FULL`, `OS_SEM_EMPTY`).
+#[derive(Clone, Copy, Debug, PartialEq, Eq)]
+pub struct BinSem {
+    pub full: bool,
+}
+
+/// The table of binary semaphores.
+#[derive(Drop)]
+pub struct BinSemPart {
+    table: Table<BinSem>,
+}
+
+impl Model for BinSemPart {
+    ghost use Rattle.osal_sem.specs.Binary.{BinSemState};
+    ghost use Rattle.std.specs.Coded.{codes};
+    ghost use Rattle.osal_idtable.specs.Code.{table_code};
+
+    ghost Value = { BinSemState };
+
+    ghost coded = { Prim.hlevel (codes, table_code) };
+
+    ghost view = { λ a. record { table = a.table } };
+
+    ghost invariant = { λ a. Unit {0} };
+}
+
+impl BinSemPart {
+    /// No semaphores, with room for as many as the limits say.
+    pub fn open(alloc: Global, limits: &Limits) -> Result<BinSemPart, OutOfMemory>
+        requires { Fits limits.now }
+        ensures { IfOk result (λ part. part ≡ no_bin_sems limits.now) }
+    {
+        Ok(BinSemPart {
+            table: Table::new(alloc, ObjType::BinSem, limits.bin_sems)?,
+        })
+    }
+
+    /// `OS_BinSemCreate`: makes a semaphore and gives its identifier. A value above 1 counts as 1.
+    ///
+    /// It takes no memory; the search for the name and for a free slot costs at most the capacity each.
+    pub fn bin_sem_create(
+        &mut self,
+        _alloc: Global,
+        _task: OsalId,
+        _now: Moment,
+        name: &Bytes,
+        value: u32,
+        room: &mut Room,
+    ) -> Result<Ack, OutOfMemory>
+        ensures step { IfOk result (λ ack. (replied ack room.new, self.new)
+            ≡ bin_sem_create_step self.old name.now.bytes value) }
+        ensures memory { IsOk result }
+    {
+        room.clear();
+        let name = match Name::new(name.as_slice()) {
+            Ok(name) => name,
+            Err(fault) => return Ok(Ack::refused(status_of_name(fault))),
+        };
+        Ok(create(&mut self.table, name, BinSem { full: 0 < value }))
+    }
+
+    /// `OS_BinSemTimedWait` with `OS_CHECK`: empties a semaphore that is full. It takes no memory.
+    pub fn bin_sem_take(
+        &mut self,
+        _alloc: Global,
+        _task: OsalId,
+        _now: Moment,
+        id: OsalId,
+        _wait: Timeout,
+        room: &mut Room,
+    ) -> Result<Ack, OutOfMemory>
+        requires check { IsCheck _wait }
+        ensures step { IfOk result (λ ack. (replied ack room.new, self.new) ≡ bin_sem_take_step self.old id) }
+        ensures memory { IsOk result }
+    {
+        room.clear();
+        let sem = match self.table.lookup(id) {
+            Ok(sem) => *sem,
+            Err(_) => return Ok(Ack::refused(Status::ErrInvalidId)),
+        };
+        if !sem.full {
+            return Ok(Ack::refused(Status::SemTimeout));
+        }
+        self.table.put(id, BinSem { full: false });
+        Ok(Ack::success())
+    }
+}

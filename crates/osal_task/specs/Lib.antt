@@ -1,0 +1,3 @@
+pub use Rattle.osal_idtable.specs.Table
+pub use Rattle.osal_idtable.specs.Steps
+pub mod Tasks

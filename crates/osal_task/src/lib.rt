@@ -1,0 +1,6 @@
+//! Tasks: the calls of OSAL's `osapi-task.h`, and the checkpoint at which a task learns whether it goes on.
+#![tactic(auto)]
+
+mod part;
+
+pub use part::{Task, TaskPart};
