@@ -3,6 +3,8 @@
 use crate::fixture::{NO_FAULTS, run_text, run_words};
 use osal_base::Answer;
 use osal_machine::Call;
+use std::alloc::Global;
+use std::process::Abort;
 use std::test::Fail;
 
 const FIRST_PATH: &str = "osal-app 1
@@ -72,6 +74,52 @@ end
 [ PASS] 7 line 9 bin_sem_take OS_SEM_TIMEOUT
 [  END] 0x00010001 main DONE PASS 7 FAIL 0
 [TOTAL] TASKS 1 PASS 7 FAIL 0
+",
+        ),
+        (
+            "a stale identifier, holds, information and finds",
+            "osal-app 1
+task main
+bin_sem_create $s \"s\" 0 -> OS_SUCCESS 0x00040001
+bin_sem_delete $s -> OS_SUCCESS
+bin_sem_give $s -> OS_ERR_INVALID_ID
+bin_sem_create $s \"s\" 0 -> OS_SUCCESS 0x00040002
+bin_sem_give $s -> OS_SUCCESS
+bin_sem_info $s -> OS_SUCCESS 1
+bin_sem_take $s check -> OS_SUCCESS
+bin_sem_info $s -> OS_SUCCESS \"s\"
+hold $s -> OS_SUCCESS
+bin_sem_delete $s -> OS_ERR_OBJECT_IN_USE
+release $s -> OS_SUCCESS
+release $s -> OS_ERR_INCORRECT_OBJ_STATE
+bin_sem_find $t \"s\" -> OS_SUCCESS 0x00040002
+bin_sem_delete $t -> OS_SUCCESS
+bin_sem_find $t \"s\" -> OS_ERR_NAME_NOT_FOUND
+hold $u -> OS_ERR_INVALID_ID
+release $s -> OS_ERR_INVALID_ID
+end
+",
+            0,
+            "[BEGIN] 0x00010001 main
+[ PASS] 1 line 3 bin_sem_create OS_SUCCESS 0x00040001
+[ PASS] 2 line 4 bin_sem_delete OS_SUCCESS
+[ PASS] 3 line 5 bin_sem_give OS_ERR_INVALID_ID
+[ PASS] 4 line 6 bin_sem_create OS_SUCCESS 0x00040002
+[ PASS] 5 line 7 bin_sem_give OS_SUCCESS
+[ PASS] 6 line 8 bin_sem_info OS_SUCCESS 1
+[ PASS] 7 line 9 bin_sem_take OS_SUCCESS
+[ PASS] 8 line 10 bin_sem_info OS_SUCCESS \"s\"
+[ PASS] 9 line 11 hold OS_SUCCESS
+[ PASS] 10 line 12 bin_sem_delete OS_ERR_OBJECT_IN_USE
+[ PASS] 11 line 13 release OS_SUCCESS
+[ PASS] 12 line 14 release OS_ERR_INCORRECT_OBJ_STATE
+[ PASS] 13 line 15 bin_sem_find OS_SUCCESS 0x00040002
+[ PASS] 14 line 16 bin_sem_delete OS_SUCCESS
+[ PASS] 15 line 17 bin_sem_find OS_ERR_NAME_NOT_FOUND
+[ PASS] 16 line 18 hold OS_ERR_INVALID_ID
+[ PASS] 17 line 19 release OS_ERR_INVALID_ID
+[  END] 0x00010001 main DONE PASS 17 FAIL 0
+[TOTAL] TASKS 1 PASS 17 FAIL 0
 ",
         ),
         ("the empty file", "", 2, "osal-run: line 1: header\n"),
@@ -150,6 +198,7 @@ fn the_journal_has_each_call_with_its_reply(rt: HostRuntime) -> Result<(), Fail>
             Call::Checkpoint => "checkpoint",
             Call::BinSemCreate { .. } => "bin_sem_create",
             Call::BinSemTake { .. } => "bin_sem_take",
+            _ => "another call",
         };
         assert!(rt; call == *name);
         assert_eq!(rt; entry.caller, *caller);
@@ -162,25 +211,25 @@ fn the_journal_has_each_call_with_its_reply(rt: HostRuntime) -> Result<(), Fail>
     Ok(())
 }
 
+/// Whether these words get the usage text, and nothing is run.
+fn get_the_usage_text(rt: &impl Abort, alloc: Global, words: &[&str]) -> Result<(), Fail> {
+    let ran = run_words(rt, alloc, words, FIRST_PATH.as_bytes(), NO_FAULTS)?;
+    assert_eq!(rt; ran.status, 2);
+    let usage = "usage: osal-run FILE | --journal FILE | --make N\n";
+    assert!(rt; ran.written.as_slice() == usage.as_bytes());
+    assert_eq!(rt; ran.journal.len(), 0);
+    Ok(())
+}
+
 #[test]
 fn other_words_get_the_usage_text(rt: HostRuntime) -> Result<(), Fail> {
-    let usage = "usage: osal-run FILE | --journal FILE | --make N\n";
-    let none: [&str; 0] = [];
-    let forms = [
-        none.as_slice(),
-        ["--journal", "app"].as_slice(),
-        ["app", "--journal"].as_slice(),
-        ["--make", "2"].as_slice(),
-        ["-x"].as_slice(),
-        ["-"].as_slice(),
-        [""].as_slice(),
-        ["app", "app"].as_slice(),
-    ];
-    for words in forms {
-        let ran = run_words(&rt, rt.alloc(), words, FIRST_PATH.as_bytes(), NO_FAULTS)?;
-        assert_eq!(rt; ran.status, 2);
-        assert!(rt; ran.written.as_slice() == usage.as_bytes());
-        assert_eq!(rt; ran.journal.len(), 0);
-    }
-    Ok(())
+    let alloc = rt.alloc();
+    get_the_usage_text(&rt, alloc, &[])?;
+    get_the_usage_text(&rt, alloc, &["--journal", "app"])?;
+    get_the_usage_text(&rt, alloc, &["app", "--journal"])?;
+    get_the_usage_text(&rt, alloc, &["--make", "2"])?;
+    get_the_usage_text(&rt, alloc, &["-x"])?;
+    get_the_usage_text(&rt, alloc, &["-"])?;
+    get_the_usage_text(&rt, alloc, &[""])?;
+    get_the_usage_text(&rt, alloc, &["app", "app"])
 }

@@ -1,20 +1,17 @@
 -- The first task of a machine without objects gets the first identifier, and is active.
-use Rattle.std.proofs.Common.{◌≡◌, ◌<◌, ◌≤◌, ◌||◌, ◌==◌, ℕ, Bool, true, false, List, [], ◌∷◌, ◌++◌, Option, Some, None, Result, Ok, Err, length, refl, sym, ap, subst, ◌∙◌, arith, is_some, cond, not, nat_lt, find}
+use Rattle.std.proofs.Common.{◌≡◌, ◌||◌, ℕ, Bool, true, false, List, [], ◌∷◌, Option, Some, None, Result, Ok, Err, length, refl, sym, ap, ◌∙◌, arith, is_some, cond, not, find}
 use Rattle.std.specs.List.{list_any}
 use Rattle.std.specs.Ordering.{nat_cmp}
 use Rattle.std.specs.Cmp.{nat_cmp_total}
 use Rattle.std.specs.FinMap as map
 use Rattle.std.proofs.lemmas.Bool.Decides.{nat_tests}
-use Rattle.osal_base.specs.Limits.{version1}
-use Rattle.osal_base.specs.Identifier.{slot_of}
-use Rattle.osal_base.specs.Name.{IsName, name_fault, has_zero}
-use Rattle.osal_base.specs.Reply.{Replied, reply_of, gives}
-use Rattle.osal_idtable.specs.Table.{Active, TableState, Reserved, opening, active_at, is_named, is_slot_taken, is_name_taken}
+use Rattle.osal_base.specs.Name.{IsName, name_fault}
+use Rattle.osal_idtable.specs.Table.{Active, TableState, Reserved, opening, active_at, is_name_taken}
 use Rattle.osal_idtable.specs.declared.place.Place.{Place}
-use Rattle.osal_idtable.specs.Next.{is_free_at, next_place, place_of, candidates, after as after_place}
+use Rattle.osal_idtable.specs.Next.{is_free_at, next_place, candidates}
 use Rattle.osal_idtable.specs.declared.table.ReserveFault.{ReserveFault}
 use Rattle.osal_idtable.specs.declared.table.ReserveFault.TheVariants as reserve_fault
-use Rattle.osal_idtable.specs.Steps.{reserve_step, issue, finalize_step, settle}
+use Rattle.osal_idtable.specs.Steps.{reserve_step, issue, settle}
 use Rattle.osal_idtable.specs.Objects.{create_step, created}
 
 -- a list without elements

@@ -9,8 +9,9 @@ use Rattle.osal_base.specs.declared.name.NameFault.{NameFault}
 use Rattle.osal_base.specs.Text.{Text}
 use Rattle.osal_base.specs.Name.{IsName, name_fault}
 use Rattle.osal_task.specs.declared.part.Task.{Task}
-use Rattle.osal_task.specs.Tasks.{TaskState, no_tasks, create_named, in_table, checkpoint_step}
+use Rattle.osal_task.specs.Tasks.{TaskState, no_tasks, create_named, in_table}
 use Rattle.osal_idtable.specs.Objects.{create_step}
+use Rattle.osal_exec.proofs.Active.{line_keeps}
 use Rattle.osal_exec.proofs.First.{first_active, no_fault}
 use Rattle.osal_idtable.specs.Table.{active_at}
 use Rattle.osal_machine.specs.declared.call.Call.{Call}
@@ -18,16 +19,14 @@ use Rattle.osal_machine.specs.declared.call.Call.TheVariants as call
 use Rattle.osal_machine.specs.declared.call.Entry.{Entry}
 use Rattle.osal_machine.specs.Call.{said, text_of}
 use Rattle.osal_machine.specs.Step.{MachineState, opening, step}
-use Rattle.osal_machine.specs.History.{replay, replay_from, IsLegal}
+use Rattle.osal_machine.specs.History.{replay}
 use Rattle.osal_machine.proofs.Histories.{replay_push, legal_push}
 use Rattle.osal_script.specs.declared.app.Line.{Line}
-use Rattle.osal_script.specs.declared.app.ScriptCall.{ScriptCall}
-use Rattle.osal_script.specs.declared.app.ScriptCall.TheVariants as script
 use Rattle.osal_script.specs.declared.cursor.Phase.{Phase}
 use Rattle.osal_script.specs.declared.cursor.Phase.TheVariants as phase
 use Rattle.osal_script.specs.App.{ScriptBody}
-use Rattle.osal_script.specs.Script.{ScriptState, start_of, after, reached, next_call, call_of, line_call, after_line, phase_after_checkpoint, IsNext, IsCheckpointAnswer}
-use Rattle.osal_script.specs.Runs.{main_id, main_caller, FollowsBody, CreatesMain, IsOfMain}
+use Rattle.osal_script.specs.Script.{ScriptState, start_of, after, next_call, line_call, after_line, phase_after_checkpoint, IsNext, IsCheckpointAnswer}
+use Rattle.osal_script.specs.Runs.{main_id, main_caller, FollowsBody, IsOfMain}
 use Rattle.osal_script.proofs.Follows.{reached_push, follow_push, all_push}
 use Rattle.osal_exec.specs.Driving.{MakesEntry, AddsEntry, FollowsLast, main_state, IsRunning, IsDriving, IsPartDriven, calls_left}
 
@@ -62,6 +61,12 @@ goes_before lines registers state (call.TaskCreate name body stack priority) act
 goes_before lines registers state call.TaskExit active is = absurd (cc)
 goes_before lines registers state (call.BinSemCreate name value) active is = absurd (cc)
 goes_before lines registers state (call.BinSemTake id wait) active is = absurd (cc)
+goes_before lines registers state (call.BinSemGive id) active is = absurd (cc)
+goes_before lines registers state (call.BinSemDelete id) active is = absurd (cc)
+goes_before lines registers state (call.BinSemFind name) active is = absurd (cc)
+goes_before lines registers state (call.BinSemInfo id) active is = absurd (cc)
+goes_before lines registers state (call.Hold id) active is = absurd (cc)
+goes_before lines registers state (call.Release id) active is = absurd (cc)
 goes_before lines registers state call.Checkpoint active is =
     let e = checkpoint_goes state.tasks (is_some (active_at state.tasks.table main_id)) active in
     record {
@@ -69,24 +74,11 @@ goes_before lines registers state call.Checkpoint active is =
       running = subst (λ (r : Replied × TaskState). IsRunning (after (record { phase = phase.Before; lines = lines; registers = registers }) r.0).phase (record state { tasks = r.1 })) (sym e) active;
     }
 
--- a line leaves the task active
-goes_line : (line : ScriptCall) (number : ℕ) (lines : List Line) (registers : List ℕ) (state : MachineState) (made : Call) → is_some (active_at state.tasks.table main_id) ≡ true → Some (call_of line registers) ≡ Some (said made) → is_some (active_at (step state main_id made).1.tasks.table main_id) ≡ true
-goes_line (script.BinSemCreate register name value) number lines registers state (call.BinSemCreate other initial) active is = active
-goes_line (script.BinSemCreate register name value) number lines registers state (call.TaskCreate other body stack priority) active is = absurd (cc)
-goes_line (script.BinSemCreate register name value) number lines registers state call.TaskExit active is = absurd (cc)
-goes_line (script.BinSemCreate register name value) number lines registers state call.Checkpoint active is = absurd (cc)
-goes_line (script.BinSemCreate register name value) number lines registers state (call.BinSemTake id wait) active is = absurd (cc)
-goes_line (script.BinSemTake id) number lines registers state (call.BinSemTake other wait) active is = active
-goes_line (script.BinSemTake id) number lines registers state (call.TaskCreate other body stack priority) active is = absurd (cc)
-goes_line (script.BinSemTake id) number lines registers state call.TaskExit active is = absurd (cc)
-goes_line (script.BinSemTake id) number lines registers state call.Checkpoint active is = absurd (cc)
-goes_line (script.BinSemTake id) number lines registers state (call.BinSemCreate other initial) active is = absurd (cc)
-
 -- a line or the exit
 goes_at : (lines : List Line) (registers : List ℕ) (state : MachineState) (made : Call) → is_some (active_at state.tasks.table main_id) ≡ true → Some (line_call lines registers) ≡ Some (said made) → Goes (record { phase = phase.At; lines = lines; registers = registers }) state (step state main_id made).1 (step state main_id made).0
 goes_at [] registers state made active is = record { answered = tt; running = tt }
 goes_at (line ∷ lines) registers state made active is =
-    record { answered = tt; running = goes_line line.call line.number lines registers state made active is }
+    record { answered = tt; running = line_keeps state main_id active line.call registers made is }
 
 -- the next call of a script
 goes_next : (at : Phase) (lines : List Line) (registers : List ℕ) (state : MachineState) (made : Call) → IsRunning at state → next_call (record { phase = at; lines = lines; registers = registers }) ≡ Some (said made) → Goes (record { phase = at; lines = lines; registers = registers }) state (step state main_id made).1 (step state main_id made).0

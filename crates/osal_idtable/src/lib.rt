@@ -11,6 +11,8 @@ mod table;
 mod tests;
 mod token;
 
-pub use objects::{create, status_of_id, status_of_name, status_of_reserve};
+pub use objects::{
+    create, delete, find, hold, release, status_of_id, status_of_name, status_of_reserve,
+};
 pub use table::{IdFault, ReserveFault, Table};
 pub use token::Token;

@@ -1,9 +1,10 @@
 -- The machine of one thread: the product of its parts, and what a call does to it.
-use Rattle.std.specs.Prelude.{ℕ}
+use Rattle.std.specs.Prelude.{ℕ, if◌then◌else◌}
 use Rattle.osal_base.specs.declared.limits.Limits.{Limits}
 use Rattle.osal_base.specs.Reply.{Replied}
-use Rattle.osal_task.specs.Tasks.{TaskState, no_tasks, task_create_step, task_exit_step, checkpoint_step}
-use Rattle.osal_sem.specs.Binary.{BinSemState, no_bin_sems, bin_sem_create_step, bin_sem_take_step}
+use Rattle.osal_task.specs.Tasks.{hold_step as hold_task, release_step as release_task, TaskState, no_tasks, task_create_step, task_exit_step, checkpoint_step}
+use Rattle.osal_sem.specs.Binary.{hold_step as hold_bin_sem, release_step as release_bin_sem, BinSemState, no_bin_sems, bin_sem_create_step, bin_sem_take_step, bin_sem_give_step, bin_sem_delete_step, bin_sem_find_step, bin_sem_info_step}
+use Rattle.osal_machine.specs.Call.{is_bin_sem_id}
 use Rattle.osal_machine.specs.declared.call.Call.{Call}
 use Rattle.osal_machine.specs.declared.call.Call.TheVariants as call
 
@@ -33,3 +34,15 @@ step state task call.Checkpoint = in_tasks state (checkpoint_step state.tasks ta
 step state task (call.BinSemCreate name value) =
     in_bin_sems state (bin_sem_create_step state.bin_sems name.bytes value)
 step state task (call.BinSemTake id wait) = in_bin_sems state (bin_sem_take_step state.bin_sems id)
+step state task (call.BinSemGive id) = in_bin_sems state (bin_sem_give_step state.bin_sems id)
+step state task (call.BinSemDelete id) = in_bin_sems state (bin_sem_delete_step state.bin_sems id)
+step state task (call.BinSemFind name) = in_bin_sems state (bin_sem_find_step state.bin_sems name.bytes)
+step state task (call.BinSemInfo id) = in_bin_sems state (bin_sem_info_step state.bin_sems id)
+step state task (call.Hold id) =
+    if is_bin_sem_id id
+    then in_bin_sems state (hold_bin_sem state.bin_sems id)
+    else in_tasks state (hold_task state.tasks id)
+step state task (call.Release id) =
+    if is_bin_sem_id id
+    then in_bin_sems state (release_bin_sem state.bin_sems id)
+    else in_tasks state (release_task state.tasks id)

@@ -4,8 +4,10 @@ ghost use Rattle.osal_base.specs.Limits.{Fits};
 ghost use Rattle.osal_base.specs.Reply.{replied};
 ghost use Rattle.osal_machine.specs.Call.{IsBuilt};
 ghost use Rattle.osal_machine.specs.Step.{opening, step};
+ghost use Rattle.osal_machine.specs.declared.call.Call.TheVariants.{Hold, Release};
 
 use crate::Call;
+use crate::call::is_bin_sem;
 use osal_base::{Ack, Limits, Moment, OsalId, OutOfMemory, Room};
 use osal_sem::BinSemPart;
 use osal_task::TaskPart;
@@ -76,6 +78,50 @@ impl Whole {
                 self.bin_sems
                     .bin_sem_take(alloc, task, now, *id, *wait, room)
             }
+            Call::BinSemGive { id } => self.bin_sems.bin_sem_give(alloc, task, now, *id, room),
+            Call::BinSemDelete { id } => self.bin_sems.bin_sem_delete(alloc, task, now, *id, room),
+            Call::BinSemFind { name } => self.bin_sems.bin_sem_find(alloc, task, now, name, room),
+            Call::BinSemInfo { id } => self.bin_sems.bin_sem_info(alloc, task, now, *id, room),
+            Call::Hold { id } => self.hold(alloc, task, now, *id, room),
+            Call::Release { id } => self.release(alloc, task, now, *id, room),
+        }
+    }
+
+    /// A hold goes to the part of the identifier's type.
+    fn hold(
+        &mut self,
+        alloc: Global,
+        task: OsalId,
+        now: Moment,
+        id: OsalId,
+        room: &mut Room,
+    ) -> Result<Ack, OutOfMemory>
+        ensures step { IfOk result (λ ack. (replied ack room.new, self.new) ≡ step self.old task (Hold id)) }
+        ensures memory { IsOk result }
+    {
+        if is_bin_sem(id) {
+            self.bin_sems.hold(alloc, task, now, id, room)
+        } else {
+            self.tasks.hold(alloc, task, now, id, room)
+        }
+    }
+
+    /// A release goes to the part of the identifier's type.
+    fn release(
+        &mut self,
+        alloc: Global,
+        task: OsalId,
+        now: Moment,
+        id: OsalId,
+        room: &mut Room,
+    ) -> Result<Ack, OutOfMemory>
+        ensures step { IfOk result (λ ack. (replied ack room.new, self.new) ≡ step self.old task (Release id)) }
+        ensures memory { IsOk result }
+    {
+        if is_bin_sem(id) {
+            self.bin_sems.release(alloc, task, now, id, room)
+        } else {
+            self.tasks.release(alloc, task, now, id, room)
         }
     }
 }

@@ -24,11 +24,23 @@ use Rattle.osal_report.specs.Spelling.{id_text, code_text, answer_text, quoted}
 abbrev pub call_name : ScriptCall → List ℕ
 call_name (script.BinSemCreate register name initial) = codes "bin_sem_create"
 call_name (script.BinSemTake id) = codes "bin_sem_take"
+call_name (script.BinSemGive id) = codes "bin_sem_give"
+call_name (script.BinSemDelete id) = codes "bin_sem_delete"
+call_name (script.BinSemFind register name) = codes "bin_sem_find"
+call_name (script.BinSemInfo id) = codes "bin_sem_info"
+call_name (script.Hold id) = codes "hold"
+call_name (script.Release id) = codes "release"
 
 -- whether a call gives an identifier
 abbrev pub gives_id : ScriptCall → Bool
 gives_id (script.BinSemCreate register name initial) = true
 gives_id (script.BinSemTake id) = false
+gives_id (script.BinSemGive id) = false
+gives_id (script.BinSemDelete id) = false
+gives_id (script.BinSemFind register name) = true
+gives_id (script.BinSemInfo id) = false
+gives_id (script.Hold id) = false
+gives_id (script.Release id) = false
 
 -- a number as a call's line spells it: an identifier's text where the call gives one
 abbrev pub number_text : ScriptCall → ℕ → List ℕ

@@ -18,6 +18,12 @@ is_exit (call.TaskCreate name body stack priority) = false
 is_exit call.Checkpoint = false
 is_exit (call.BinSemCreate name initial) = false
 is_exit (call.BinSemTake id wait) = false
+is_exit (call.BinSemGive id) = false
+is_exit (call.BinSemDelete id) = false
+is_exit (call.BinSemFind name) = false
+is_exit (call.BinSemInfo id) = false
+is_exit (call.Hold id) = false
+is_exit (call.Release id) = false
 
 -- whether an entry is there and is the exit of a task
 abbrev pub is_exit_entry : Option Entry → Bool
@@ -47,6 +53,12 @@ created_name call.TaskExit = []
 created_name call.Checkpoint = []
 created_name (call.BinSemCreate name initial) = []
 created_name (call.BinSemTake id wait) = []
+created_name (call.BinSemGive id) = []
+created_name (call.BinSemDelete id) = []
+created_name (call.BinSemFind name) = []
+created_name (call.BinSemInfo id) = []
+created_name (call.Hold id) = []
+created_name (call.Release id) = []
 
 -- the counts at a line's end
 unfoldable pub counts_text : ℕ → ℕ → List ℕ

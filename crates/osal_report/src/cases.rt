@@ -18,6 +18,12 @@ fn call_name(call: &ScriptCall) -> &'static [u8]
     match call {
         ScriptCall::BinSemCreate { .. } => b"bin_sem_create",
         ScriptCall::BinSemTake { .. } => b"bin_sem_take",
+        ScriptCall::BinSemGive { .. } => b"bin_sem_give",
+        ScriptCall::BinSemDelete { .. } => b"bin_sem_delete",
+        ScriptCall::BinSemFind { .. } => b"bin_sem_find",
+        ScriptCall::BinSemInfo { .. } => b"bin_sem_info",
+        ScriptCall::Hold { .. } => b"hold",
+        ScriptCall::Release { .. } => b"release",
     }
 }
 
@@ -26,8 +32,13 @@ fn gives_id(call: &ScriptCall) -> bool
     ensures { result ≡ gives call.now }
 {
     match call {
-        ScriptCall::BinSemCreate { .. } => true,
-        ScriptCall::BinSemTake { .. } => false,
+        ScriptCall::BinSemCreate { .. } | ScriptCall::BinSemFind { .. } => true,
+        ScriptCall::BinSemTake { .. }
+        | ScriptCall::BinSemGive { .. }
+        | ScriptCall::BinSemDelete { .. }
+        | ScriptCall::BinSemInfo { .. }
+        | ScriptCall::Hold { .. }
+        | ScriptCall::Release { .. } => false,
     }
 }
 

@@ -19,7 +19,13 @@ fn is_exit(call: &Call) -> bool
         Call::TaskCreate { .. }
         | Call::Checkpoint
         | Call::BinSemCreate { .. }
-        | Call::BinSemTake { .. } => false,
+        | Call::BinSemTake { .. }
+        | Call::BinSemGive { .. }
+        | Call::BinSemDelete { .. }
+        | Call::BinSemFind { .. }
+        | Call::BinSemInfo { .. }
+        | Call::Hold { .. }
+        | Call::Release { .. } => false,
     }
 }
 
@@ -28,9 +34,16 @@ fn created_name(call: &Call) -> &[u8]
 {
     match call {
         Call::TaskCreate { name, .. } => name.as_slice(),
-        Call::TaskExit | Call::Checkpoint | Call::BinSemCreate { .. } | Call::BinSemTake { .. } => {
-            &[]
-        }
+        Call::TaskExit
+        | Call::Checkpoint
+        | Call::BinSemCreate { .. }
+        | Call::BinSemTake { .. }
+        | Call::BinSemGive { .. }
+        | Call::BinSemDelete { .. }
+        | Call::BinSemFind { .. }
+        | Call::BinSemInfo { .. }
+        | Call::Hold { .. }
+        | Call::Release { .. } => &[],
     }
 }
 

@@ -1,5 +1,5 @@
 -- What a run leaves, by its exit status.
-use Rattle.std.specs.Prelude.{◌≡◌, ◌++◌, List, [], ℕ, Option, Some, None}
+use Rattle.std.specs.Prelude.{◌≡◌, ◌⊎◌, ◌++◌, List, [], ℕ, Option, Some, None}
 use Rattle.osal_base.specs.Causes.{WhereTold}
 use Rattle.osal_base.specs.Shelf.{ShelfContent}
 use Rattle.osal_base.specs.Sink.{AppendsPrefix}
@@ -79,3 +79,22 @@ IsFinished exit.Refused = ⊥
 IsFinished exit.SourceFault = ⊥
 IsFinished exit.SinkFault = ⊥
 IsFinished exit.NoMemory = ⊥
+
+-- an accepted application is run, and a refused one is refused, unless something outside fails
+abbrev pub ExitFits : Exit → Check → Type 0
+ExitFits exit.Passed (Accepted app) = Unit {0}
+ExitFits exit.Failed (Accepted app) = Unit {0}
+ExitFits exit.Refused (Accepted app) = ⊥
+ExitFits exit.Passed (Refused refusal) = ⊥
+ExitFits exit.Failed (Refused refusal) = ⊥
+ExitFits exit.Refused (Refused refusal) = Unit {0}
+ExitFits exit.SourceFault check = Unit {0}
+ExitFits exit.SinkFault check = Unit {0}
+ExitFits exit.NoMemory check = Unit {0}
+
+-- completeness: where neither source nor sink fails, an accepted application ends with its journal's
+-- status and a refused one with 2, or there was no memory
+abbrev pub Completes : ℕ → Type 0 → Type 0 → Check → Type 0
+Completes status source sink (Accepted app) =
+    ¬ source → ¬ sink → (status ≡ 0) ⊎ ((status ≡ 1) ⊎ (status ≡ 6))
+Completes status source sink (Refused refusal) = ¬ source → ¬ sink → (status ≡ 2) ⊎ (status ≡ 6)

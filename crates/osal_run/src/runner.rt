@@ -4,7 +4,8 @@ ghost use Rattle.osal_base.specs.Causes.{HasCause, Rose, WhereTold};
 ghost use Rattle.osal_base.specs.Sink.{Appends, AppendsPrefix};
 ghost use Rattle.osal_script.specs.Runs.{IsPartRun, IsRun};
 ghost use Rattle.osal_run.specs.Checks.{Accepted, Refused, check_of, refusal_text};
-ghost use Rattle.osal_run.specs.Outcome.{exit_number, Leaves, LeavesFor, LeavesBy, WhereBothTold, IsFinished};
+ghost use Rattle.osal_run.specs.Outcome.{exit_number, Leaves, LeavesFor, LeavesBy, WhereBothTold, IsFinished, ExitFits, Completes};
+ghost use Rattle.osal_run.specs.Loading.{IfTold};
 ghost use Rattle.osal_run.specs.declared.exit.Exit.TheVariants as exit;
 
 use crate::load::{Stop, load};
@@ -29,6 +30,7 @@ fn write_text<K: Sink>(sink: &mut K, text: &[u8]) -> Result<(), WriteFailed>
 /// Tells why a run is refused.
 fn refuse<K: Sink>(alloc: Global, refusal: Refusal, sink: &mut K) -> Exit
     ensures told { WhereTold (K.written sink.old) (K.written sink.new) (Leaves result (Refused refusal) []) }
+    ensures fits { ExitFits result (Refused refusal) }
     ensures cause { result ≡ exit.SinkFault → Rose (K.faults sink.old) (K.faults sink.new) }
     ensures source { result ≡ exit.SourceFault → ⊥ }
 {
@@ -51,6 +53,7 @@ fn execute<K: Sink, G: Gate>(
 ) -> Exit
     requires { journal.old.entries ≡ [] }
     ensures told { WhereTold (K.written sink.old) (K.written sink.new) (Leaves result (Accepted app.now) journal.new.entries) }
+    ensures fits { ExitFits result (Accepted app.now) }
     ensures cause { result ≡ exit.SinkFault → Rose (K.faults sink.old) (K.faults sink.new) }
     ensures source { result ≡ exit.SourceFault → ⊥ }
 {
@@ -95,6 +98,10 @@ pub fn run<S: Shelf, K: Sink, G: Gate>(
     // The journal, the bytes written and the status, where shelf and sink tell their contents.
     ensures leaves { WhereBothTold (S.content shelf.old) (K.written sink.old) (K.written sink.new)
         (LeavesBy result (map string_bytes words.now) journal.new.entries) }
+    // Where nothing outside fails, an accepted application is run and a refused one is refused.
+    ensures complete { IfTold (S.content shelf.old) (λ content. Completes result
+        (Rose (S.faults shelf.old) (S.faults shelf.new)) (Rose (K.faults sink.old) (K.faults sink.new))
+        (check_of content.files (map string_bytes words.now))) }
     // A fault is answered only where its count rose in this call.
     ensures source { result ≡ 4 → Rose (S.faults shelf.old) (S.faults shelf.new) }
     ensures sink { result ≡ 5 → Rose (K.faults sink.old) (K.faults sink.new) }
@@ -112,6 +119,7 @@ fn run_exit<S: Shelf, K: Sink, G: Gate>(
 ) -> Exit
     ensures leaves { WhereBothTold (S.content shelf.old) (K.written sink.old) (K.written sink.new)
         (LeavesFor result (map string_bytes words.now) journal.new.entries) }
+    ensures fits { IfTold (S.content shelf.old) (λ content. ExitFits result (check_of content.files (map string_bytes words.now))) }
     ensures source { result ≡ exit.SourceFault → Rose (S.faults shelf.old) (S.faults shelf.new) }
     ensures sink { result ≡ exit.SinkFault → Rose (K.faults sink.old) (K.faults sink.new) }
 {

@@ -38,8 +38,8 @@ numbered registers name None =
 abbrev pub register_number : Registers → List ℕ → ℕ × Registers
 register_number registers name = numbered registers name (place_from 0 registers.names name)
 
--- a value that is there, and what follows from it
 infixl 10 ◌>>=◌
+-- a value that is there, and what follows from it
 abbrev pub ◌>>=◌ : {A B : Type 0} → Option A → (A → Option B) → Option B
 o >>= f = option_and_then f o
 
@@ -54,6 +54,14 @@ wait_at registers word =
     else (if bytes_eq word (codes "pend") then Some (record registers { unbuilt = true })
     else option_map (λ n. record registers { unbuilt = true }) (positive_below (2 ^ 31) word))
 
+-- a call whose one argument is an identifier
+abbrev pub with_id : (ℕ → ScriptCall) → List (List ℕ) → Registers → Option (ScriptCall × Registers)
+with_id make [] registers = None
+with_id make (id ∷ []) registers = do
+  named ← register_at registers id
+  Some (make named.0, named.1)
+with_id make (id ∷ another ∷ words) registers = None
+
 -- the call that a line's arguments make, in the order in which they stand
 abbrev pub call_of_words : CallWord → List (List ℕ) → Registers → Option (ScriptCall × Registers)
 call_of_words word.BinSemCreate (register ∷ name ∷ number ∷ []) registers = do
@@ -65,6 +73,15 @@ call_of_words word.BinSemTake (id ∷ wait ∷ []) registers = do
   named ← register_at registers id
   after ← wait_at named.1 wait
   Some (script.BinSemTake named.0, after)
+call_of_words word.BinSemGive words registers = with_id (λ id. script.BinSemGive id) words registers
+call_of_words word.BinSemDelete words registers = with_id (λ id. script.BinSemDelete id) words registers
+call_of_words word.BinSemFind (register ∷ name ∷ []) registers = do
+  named ← register_at registers register
+  text ← string_of name
+  Some (script.BinSemFind named.0 text, named.1)
+call_of_words word.BinSemInfo words registers = with_id (λ id. script.BinSemInfo id) words registers
+call_of_words word.Hold words registers = with_id (λ id. script.Hold id) words registers
+call_of_words word.Release words registers = with_id (λ id. script.Release id) words registers
 call_of_words call words registers = None
 
 -- the word that leads to what is expected

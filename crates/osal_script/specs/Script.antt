@@ -43,6 +43,12 @@ start_of body = record { phase = phase.Before; lines = lines_of body; registers 
 abbrev pub call_of : ScriptCall → List ℕ → Call
 call_of (script.BinSemCreate register name value) registers = call.BinSemCreate (text_of name) value
 call_of (script.BinSemTake id) registers = call.BinSemTake (slice_index registers id) timeout.Check
+call_of (script.BinSemGive id) registers = call.BinSemGive (slice_index registers id)
+call_of (script.BinSemDelete id) registers = call.BinSemDelete (slice_index registers id)
+call_of (script.BinSemFind register name) registers = call.BinSemFind (text_of name)
+call_of (script.BinSemInfo id) registers = call.BinSemInfo (slice_index registers id)
+call_of (script.Hold id) registers = call.Hold (slice_index registers id)
+call_of (script.Release id) registers = call.Release (slice_index registers id)
 
 -- the call of the first line, or the exit where there is none
 abbrev pub line_call : List Line → List ℕ → Call
@@ -68,6 +74,12 @@ next_call state = call_in state state.phase
 abbrev pub register_of : ScriptCall → Option ℕ
 register_of (script.BinSemCreate register name value) = Some register
 register_of (script.BinSemTake id) = None
+register_of (script.BinSemGive id) = None
+register_of (script.BinSemDelete id) = None
+register_of (script.BinSemFind register name) = Some register
+register_of (script.BinSemInfo id) = None
+register_of (script.Hold id) = None
+register_of (script.Release id) = None
 
 -- whether an answer is success
 abbrev pub is_success : Answer → Bool

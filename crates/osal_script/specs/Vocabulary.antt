@@ -9,11 +9,11 @@ use Rattle.osal_script.specs.declared.grammar.FirstWord.TheVariants as first
 -- the names of calls that the machine does not make yet, and the words whose lines are not read yet
 abbrev pub unbuilt_words : List (List ℕ)
 unbuilt_words =
-    codes "handler" ∷ codes "repeat" ∷ codes "hold" ∷ codes "release" ∷ codes "task_create" ∷ codes "task_exit"
+    codes "handler" ∷ codes "repeat" ∷ codes "task_create" ∷ codes "task_exit"
     ∷ codes "task_delete" ∷ codes "task_set_priority" ∷ codes "task_find" ∷ codes "task_info" ∷ codes "task_delay"
     ∷ codes "queue_create" ∷ codes "queue_delete" ∷ codes "queue_put" ∷ codes "queue_get" ∷ codes "queue_find"
-    ∷ codes "queue_info" ∷ codes "bin_sem_give" ∷ codes "bin_sem_flush" ∷ codes "bin_sem_delete"
-    ∷ codes "bin_sem_find" ∷ codes "bin_sem_info" ∷ codes "count_sem_create" ∷ codes "count_sem_give"
+    ∷ codes "queue_info" ∷ codes "bin_sem_flush"
+    ∷ codes "count_sem_create" ∷ codes "count_sem_give"
     ∷ codes "count_sem_take" ∷ codes "count_sem_delete" ∷ codes "count_sem_find" ∷ codes "count_sem_info"
     ∷ codes "mut_sem_create" ∷ codes "mut_sem_take" ∷ codes "mut_sem_give" ∷ codes "mut_sem_delete"
     ∷ codes "mut_sem_find" ∷ codes "mut_sem_info" ∷ codes "condvar_create" ∷ codes "condvar_lock"
@@ -29,6 +29,18 @@ unbuilt_words =
     ∷ codes "select_one" ∷ codes "select_multi" ∷ codes "console_write" ∷ codes "console_enable"
     ∷ codes "console_disable" ∷ []
 
+-- a call beside the creation and the take, or a word that is not read yet
+abbrev pub other_call : List ℕ → Option FirstWord
+other_call text =
+    if bytes_eq text (codes "bin_sem_give") then Some (first.Call word.BinSemGive)
+    else (if bytes_eq text (codes "bin_sem_delete") then Some (first.Call word.BinSemDelete)
+    else (if bytes_eq text (codes "bin_sem_find") then Some (first.Call word.BinSemFind)
+    else (if bytes_eq text (codes "bin_sem_info") then Some (first.Call word.BinSemInfo)
+    else (if bytes_eq text (codes "hold") then Some (first.Call word.Hold)
+    else (if bytes_eq text (codes "release") then Some (first.Call word.Release)
+    else (if list_any (λ other. bytes_eq text other) unbuilt_words then Some first.Unbuilt
+    else None))))))
+
 -- what a line's first word says that the line is
 abbrev pub first_word : List ℕ → Option FirstWord
 first_word text =
@@ -37,5 +49,4 @@ first_word text =
     else (if bytes_eq text (codes "end") then Some first.End
     else (if bytes_eq text (codes "bin_sem_create") then Some (first.Call word.BinSemCreate)
     else (if bytes_eq text (codes "bin_sem_take") then Some (first.Call word.BinSemTake)
-    else (if list_any (λ other. bytes_eq text other) unbuilt_words then Some first.Unbuilt
-    else None)))))
+    else other_call text))))

@@ -87,6 +87,25 @@ pub enum ScriptCall {
     BinSemTake {
         id: Register,
     },
+    BinSemGive {
+        id: Register,
+    },
+    BinSemDelete {
+        id: Register,
+    },
+    BinSemFind {
+        register: Register,
+        name: Literal,
+    },
+    BinSemInfo {
+        id: Register,
+    },
+    Hold {
+        id: Register,
+    },
+    Release {
+        id: Register,
+    },
 }
 
 /// The value that a line expects beside its code.

@@ -1,5 +1,5 @@
 //! The cursor: how far a task has come in its script.
-ghost use Rattle.std.specs.Prelude.{◌≡◌, ◌≤◌, length, map, drop, IfOk, OnErr, OnOk, option_copied, option_map};
+ghost use Rattle.std.specs.Prelude.{◌≡◌, ◌≤◌, length, map, drop, IfOk, OnErr, OnOk, option_copied, option_map, slice_index};
 ghost use Rattle.osal_base.specs.Reply.{reply_of};
 ghost use Rattle.osal_machine.specs.Call.{said, IsBuilt};
 ghost use Rattle.osal_script.specs.Script as script;
@@ -176,8 +176,15 @@ fn register_of(call: &ScriptCall) -> Option<Register>
     ensures { result ≡ script.register_of call.now }
 {
     match call {
-        ScriptCall::BinSemCreate { register, .. } => Some(*register),
-        ScriptCall::BinSemTake { .. } => None,
+        ScriptCall::BinSemCreate { register, .. } | ScriptCall::BinSemFind { register, .. } => {
+            Some(*register)
+        }
+        ScriptCall::BinSemTake { .. }
+        | ScriptCall::BinSemGive { .. }
+        | ScriptCall::BinSemDelete { .. }
+        | ScriptCall::BinSemInfo { .. }
+        | ScriptCall::Hold { .. }
+        | ScriptCall::Release { .. } => None,
     }
 }
 
@@ -229,8 +236,33 @@ fn call_at(alloc: Global, item: Option<&Item>, registers: &[u32; 32]) -> Result<
             value: *value,
         }),
         ScriptCall::BinSemTake { id } => Ok(Call::BinSemTake {
-            id: OsalId::of_raw(registers[id.index()]),
+            id: held_in(registers, *id),
             wait: Timeout::Check,
         }),
+        ScriptCall::BinSemGive { id } => Ok(Call::BinSemGive {
+            id: held_in(registers, *id),
+        }),
+        ScriptCall::BinSemDelete { id } => Ok(Call::BinSemDelete {
+            id: held_in(registers, *id),
+        }),
+        ScriptCall::BinSemFind { name, .. } => Ok(Call::BinSemFind {
+            name: Bytes::copy(alloc, name.as_slice())?,
+        }),
+        ScriptCall::BinSemInfo { id } => Ok(Call::BinSemInfo {
+            id: held_in(registers, *id),
+        }),
+        ScriptCall::Hold { id } => Ok(Call::Hold {
+            id: held_in(registers, *id),
+        }),
+        ScriptCall::Release { id } => Ok(Call::Release {
+            id: held_in(registers, *id),
+        }),
     }
+}
+
+/// The identifier in a register.
+fn held_in(registers: &[u32; 32], register: Register) -> OsalId
+    ensures { result ≡ slice_index registers.now register }
+{
+    OsalId::of_raw(registers[register.index()])
 }

@@ -1,12 +1,13 @@
 //! The arguments of call lines, and what a line expects.
 ghost use Rattle.std.specs.Prelude.{◌≡◌, ◌≤◌, ◌^◌, List, [], ◌∷◌, ℕ, length, map, take, drop, option_map, IfOk};
 ghost use Rattle.osal_script.specs.Values.{number_below};
+ghost use Rattle.osal_script.specs.declared.app.ScriptCall.{ScriptCall};
 ghost use Rattle.osal_script.specs.Grammar as grammar;
 
 use crate::registers::Registers;
 use crate::strings::string_of;
 use crate::values::{code_of, number_within};
-use crate::{Expect, ScriptCall, Value};
+use crate::{Expect, Register, ScriptCall, Value};
 use osal_base::OutOfMemory;
 use std::alloc::Global;
 
@@ -15,6 +16,12 @@ use std::alloc::Global;
 pub enum CallWord {
     BinSemCreate,
     BinSemTake,
+    BinSemGive,
+    BinSemDelete,
+    BinSemFind,
+    BinSemInfo,
+    Hold,
+    Release,
 }
 
 /// What a line is, by its first word.
@@ -45,7 +52,36 @@ pub fn call_of_words(
     match call {
         CallWord::BinSemCreate => create_of_words(alloc, words, registers),
         CallWord::BinSemTake => take_of_words(words, registers),
+        CallWord::BinSemFind => find_of_words(alloc, words, registers),
+        CallWord::BinSemGive => {
+            Ok(only_register(words, registers)?.map(|id| ScriptCall::BinSemGive { id }))
+        }
+        CallWord::BinSemDelete => {
+            Ok(only_register(words, registers)?.map(|id| ScriptCall::BinSemDelete { id }))
+        }
+        CallWord::BinSemInfo => {
+            Ok(only_register(words, registers)?.map(|id| ScriptCall::BinSemInfo { id }))
+        }
+        CallWord::Hold => Ok(only_register(words, registers)?.map(|id| ScriptCall::Hold { id })),
+        CallWord::Release => {
+            Ok(only_register(words, registers)?.map(|id| ScriptCall::Release { id }))
+        }
     }
+}
+
+/// The one argument of a call on an identifier.
+fn only_register(
+    words: &[&[u8]],
+    registers: &mut Registers,
+) -> Result<Option<Register>, OutOfMemory>
+    ensures { IfOk result (λ id. (make : ℕ → ScriptCall) →
+        grammar.with_id make (map (λ word. word.now) words.now) registers.old
+        ≡ option_map (λ r. (make r, registers.new)) id) }
+{
+    if words.len() != 1 {
+        return Ok(None);
+    }
+    registers.register_at(words[0])
 }
 
 fn create_of_words(
@@ -121,6 +157,40 @@ fn take_of(
     } else {
         Ok(None)
     }
+}
+
+fn find_of_words(
+    alloc: Global,
+    words: &[&[u8]],
+    registers: &mut Registers,
+) -> Result<Option<ScriptCall>, OutOfMemory>
+    ensures { IfOk result (λ made.
+        grammar.call_of_words CallWord.BinSemFind (map (λ word. word.now) words.now) registers.old
+        ≡ option_map (λ call. (call, registers.new)) made) }
+{
+    if words.len() != 2 {
+        return Ok(None);
+    }
+    find_of(alloc, words[0], words[1], registers)
+}
+
+fn find_of(
+    alloc: Global,
+    register: &[u8],
+    name: &[u8],
+    registers: &mut Registers,
+) -> Result<Option<ScriptCall>, OutOfMemory>
+    ensures { IfOk result (λ made.
+        grammar.call_of_words CallWord.BinSemFind (register.now ∷ name.now ∷ []) registers.old
+        ≡ option_map (λ call. (call, registers.new)) made) }
+{
+    let Some(register) = registers.register_at(register)? else {
+        return Ok(None);
+    };
+    let Some(name) = string_of(alloc, name)? else {
+        return Ok(None);
+    };
+    Ok(Some(ScriptCall::BinSemFind { register, name }))
 }
 
 /// Where the arrow stands among the words, or how many words there are.

@@ -7,11 +7,9 @@ ghost use Rattle.osal_script.specs.Vocabulary as vocabulary;
 use crate::grammar::{CallWord, FirstWord};
 
 /// The words whose lines are not read yet.
-const UNBUILT: [&str; 85] = [
+const UNBUILT: [&str; 79] = [
     "handler",
     "repeat",
-    "hold",
-    "release",
     "task_create",
     "task_exit",
     "task_delete",
@@ -25,11 +23,7 @@ const UNBUILT: [&str; 85] = [
     "queue_get",
     "queue_find",
     "queue_info",
-    "bin_sem_give",
     "bin_sem_flush",
-    "bin_sem_delete",
-    "bin_sem_find",
-    "bin_sem_info",
     "count_sem_create",
     "count_sem_give",
     "count_sem_take",
@@ -113,6 +107,30 @@ pub fn first_word(text: &[u8]) -> Option<FirstWord>
     }
     if text == b"bin_sem_take".as_slice() {
         return Some(FirstWord::Call(CallWord::BinSemTake));
+    }
+    other_call(text)
+}
+
+fn other_call(text: &[u8]) -> Option<FirstWord>
+    ensures { result ≡ vocabulary.other_call text.now }
+{
+    if text == b"bin_sem_give".as_slice() {
+        return Some(FirstWord::Call(CallWord::BinSemGive));
+    }
+    if text == b"bin_sem_delete".as_slice() {
+        return Some(FirstWord::Call(CallWord::BinSemDelete));
+    }
+    if text == b"bin_sem_find".as_slice() {
+        return Some(FirstWord::Call(CallWord::BinSemFind));
+    }
+    if text == b"bin_sem_info".as_slice() {
+        return Some(FirstWord::Call(CallWord::BinSemInfo));
+    }
+    if text == b"hold".as_slice() {
+        return Some(FirstWord::Call(CallWord::Hold));
+    }
+    if text == b"release".as_slice() {
+        return Some(FirstWord::Call(CallWord::Release));
     }
     if is_unbuilt(text) {
         Some(FirstWord::Unbuilt)

@@ -6,9 +6,9 @@ use Rattle.osal_base.specs.declared.id.ObjType.TheVariants as kind
 use Rattle.osal_base.specs.declared.limits.Limits.{Limits}
 use Rattle.osal_base.specs.Identifier.{type_number}
 use Rattle.osal_base.specs.Name.{name_fault}
-use Rattle.osal_base.specs.Reply.{Replied, refusal, success}
+use Rattle.osal_base.specs.Reply.{Replied, refusal, success, gives_bytes}
 use Rattle.osal_idtable.specs.Table.{Active, TableState, opening, active_at, with_object}
-use Rattle.osal_idtable.specs.Objects.{name_status, create_step}
+use Rattle.osal_idtable.specs.Objects.{name_status, name_bytes, create_step, delete_step, find_reply, hold_call_step, release_call_step}
 use Rattle.osal_sem.specs.declared.binary.BinSem.{BinSem}
 
 -- the binary semaphore part: the table of semaphores
@@ -52,3 +52,37 @@ take_from sems id (Some active) =
 -- OS_BinSemTimedWait under OS_CHECK: an identifier that is not active, an empty semaphore; else it is emptied
 abbrev pub bin_sem_take_step : BinSemState → ℕ → Replied × BinSemState
 bin_sem_take_step sems id = take_from sems id (active_at sems.table id)
+
+-- a semaphore that is there is filled
+abbrev pub give_to : BinSemState → ℕ → Option (Active BinSem) → Replied × BinSemState
+give_to sems id None = (refusal status.ErrInvalidId, sems)
+give_to sems id (Some active) = (success, with_bin_sem sems id (bin_sem true))
+
+-- OS_BinSemGive: an identifier that is not active; else the semaphore is full
+abbrev pub bin_sem_give_step : BinSemState → ℕ → Replied × BinSemState
+bin_sem_give_step sems id = give_to sems id (active_at sems.table id)
+
+-- OS_BinSemDelete: an identifier that is not active, a semaphore that is held; else it is removed
+abbrev pub bin_sem_delete_step : BinSemState → ℕ → Replied × BinSemState
+bin_sem_delete_step sems id = in_table (delete_step sems.table id)
+
+-- OS_BinSemGetIdByName: name faults, no such name; else the identifier
+abbrev pub bin_sem_find_step : BinSemState → List ℕ → Replied × BinSemState
+bin_sem_find_step sems name = (find_reply sems.table name, sems)
+
+-- the value and the name of a semaphore
+abbrev pub info_of : Option (Active BinSem) → Replied
+info_of None = refusal status.ErrInvalidId
+info_of (Some active) = gives_bytes (if active.object.full then 1 else 0) (name_bytes active.name)
+
+-- OS_BinSemGetInfo: an identifier that is not active; else the value, with the name
+abbrev pub bin_sem_info_step : BinSemState → ℕ → Replied × BinSemState
+bin_sem_info_step sems id = (info_of (active_at sems.table id), sems)
+
+-- a hold of a semaphore
+abbrev pub hold_step : BinSemState → ℕ → Replied × BinSemState
+hold_step sems id = in_table (hold_call_step sems.table id)
+
+-- the end of a hold of a semaphore
+abbrev pub release_step : BinSemState → ℕ → Replied × BinSemState
+release_step sems id = in_table (release_call_step sems.table id)

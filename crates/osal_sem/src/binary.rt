@@ -3,12 +3,12 @@ ghost use Rattle.std.specs.Prelude.{◌≡◌, IsOk, IfOk};
 ghost use Rattle.osal_base.specs.Limits.{Fits};
 ghost use Rattle.osal_base.specs.Reply.{replied};
 ghost use Rattle.osal_base.specs.Time.{IsCheck};
-ghost use Rattle.osal_sem.specs.Binary.{no_bin_sems, bin_sem_create_step, bin_sem_take_step};
+ghost use Rattle.osal_sem.specs.Binary.{no_bin_sems, bin_sem_create_step, bin_sem_take_step, bin_sem_give_step, bin_sem_delete_step, bin_sem_find_step, bin_sem_info_step, hold_step, release_step};
 
 use osal_base::{
     Ack, Bytes, Limits, Moment, Name, ObjType, OsalId, OutOfMemory, Room, Status, Timeout,
 };
-use osal_idtable::{Table, create, status_of_name};
+use osal_idtable::{Table, create, delete, find, hold, release, status_of_name};
 use std::alloc::Global;
 use std::marker::Model;
 
@@ -97,5 +97,112 @@ impl BinSemPart {
         }
         self.table.put(id, BinSem { full: false });
         Ok(Ack::success())
+    }
+
+    /// `OS_BinSemGive`: fills a semaphore. It takes no memory.
+    pub fn bin_sem_give(
+        &mut self,
+        _alloc: Global,
+        _task: OsalId,
+        _now: Moment,
+        id: OsalId,
+        room: &mut Room,
+    ) -> Result<Ack, OutOfMemory>
+        ensures step { IfOk result (λ ack. (replied ack room.new, self.new) ≡ bin_sem_give_step self.old id) }
+        ensures memory { IsOk result }
+    {
+        room.clear();
+        if self.table.lookup(id).is_err() {
+            return Ok(Ack::refused(Status::ErrInvalidId));
+        }
+        self.table.put(id, BinSem { full: true });
+        Ok(Ack::success())
+    }
+
+    /// `OS_BinSemDelete`: removes a semaphore that nobody holds. It takes no memory.
+    pub fn bin_sem_delete(
+        &mut self,
+        _alloc: Global,
+        _task: OsalId,
+        _now: Moment,
+        id: OsalId,
+        room: &mut Room,
+    ) -> Result<Ack, OutOfMemory>
+        ensures step { IfOk result (λ ack. (replied ack room.new, self.new) ≡ bin_sem_delete_step self.old id) }
+        ensures memory { IsOk result }
+    {
+        room.clear();
+        Ok(delete(&mut self.table, id))
+    }
+
+    /// `OS_BinSemGetIdByName`: gives the identifier of a semaphore. It looks at each slot at most.
+    pub fn bin_sem_find(
+        &mut self,
+        _alloc: Global,
+        _task: OsalId,
+        _now: Moment,
+        name: &Bytes,
+        room: &mut Room,
+    ) -> Result<Ack, OutOfMemory>
+        ensures step { IfOk result (λ ack. (replied ack room.new, self.new) ≡ bin_sem_find_step self.old name.now.bytes) }
+        ensures memory { IsOk result }
+    {
+        room.clear();
+        Ok(find(&self.table, name.as_slice()))
+    }
+
+    /// `OS_BinSemGetInfo`: gives the value of a semaphore, 1 or 0, and its name.
+    pub fn bin_sem_info(
+        &mut self,
+        _alloc: Global,
+        _task: OsalId,
+        _now: Moment,
+        id: OsalId,
+        room: &mut Room,
+    ) -> Result<Ack, OutOfMemory>
+        ensures step { IfOk result (λ ack. (replied ack room.new, self.new) ≡ bin_sem_info_step self.old id) }
+        ensures memory { IsOk result }
+    {
+        room.clear();
+        let full = match self.table.lookup(id) {
+            Ok(sem) => sem.full,
+            Err(_) => return Ok(Ack::refused(Status::ErrInvalidId)),
+        };
+        if let Ok(Some(name)) = self.table.name_of(id) {
+            room.append(name.as_slice());
+        }
+        Ok(Ack::gives(u64::from(full)))
+    }
+
+    /// Holds a semaphore, so that it is not removed.
+    pub fn hold(
+        &mut self,
+        _alloc: Global,
+        _task: OsalId,
+        _now: Moment,
+        id: OsalId,
+        room: &mut Room,
+    ) -> Result<Ack, OutOfMemory>
+        ensures step { IfOk result (λ ack. (replied ack room.new, self.new) ≡ hold_step self.old id) }
+        ensures memory { IsOk result }
+    {
+        room.clear();
+        Ok(hold(&mut self.table, id))
+    }
+
+    /// Gives a hold of a semaphore back.
+    pub fn release(
+        &mut self,
+        _alloc: Global,
+        _task: OsalId,
+        _now: Moment,
+        id: OsalId,
+        room: &mut Room,
+    ) -> Result<Ack, OutOfMemory>
+        ensures step { IfOk result (λ ack. (replied ack room.new, self.new) ≡ release_step self.old id) }
+        ensures memory { IsOk result }
+    {
+        room.clear();
+        Ok(release(&mut self.table, id))
     }
 }

@@ -9,7 +9,7 @@ use Rattle.osal_base.specs.Name.{name_fault}
 use Rattle.osal_base.specs.Reply.{Replied, refusal, success, goes_on}
 use Rattle.osal_idtable.specs.Table.{TableState, opening, active_at}
 use Rattle.osal_idtable.specs.Steps.{remove_step}
-use Rattle.osal_idtable.specs.Objects.{name_status, id_status, create_step}
+use Rattle.osal_idtable.specs.Objects.{name_status, id_status, create_step, hold_call_step, release_call_step}
 use Rattle.osal_idtable.specs.declared.table.IdFault.{IdFault}
 use Rattle.osal_task.specs.declared.part.Task.{Task}
 
@@ -58,3 +58,11 @@ checkpoint_step tasks task =
     if is_some (active_at tasks.table task)
     then (goes_on, tasks)
     else (refusal status.ErrInvalidId, tasks)
+
+-- a hold of a task
+abbrev pub hold_step : TaskState → ℕ → Replied × TaskState
+hold_step tasks id = in_table (hold_call_step tasks.table id)
+
+-- the end of a hold of a task
+abbrev pub release_step : TaskState → ℕ → Replied × TaskState
+release_step tasks id = in_table (release_call_step tasks.table id)

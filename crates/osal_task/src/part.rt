@@ -2,12 +2,12 @@
 ghost use Rattle.std.specs.Prelude.{◌≡◌, IsOk, IfOk};
 ghost use Rattle.osal_base.specs.Limits.{Fits};
 ghost use Rattle.osal_base.specs.Reply.{replied};
-ghost use Rattle.osal_task.specs.Tasks.{no_tasks, task_create_step, task_exit_step, checkpoint_step};
+ghost use Rattle.osal_task.specs.Tasks.{no_tasks, task_create_step, task_exit_step, checkpoint_step, hold_step, release_step};
 
 use osal_base::{
     Ack, Answer, Bytes, Limits, Moment, Name, ObjType, OsalId, OutOfMemory, Room, Status,
 };
-use osal_idtable::{Table, create, status_of_id, status_of_name};
+use osal_idtable::{Table, create, hold, release, status_of_id, status_of_name};
 use std::alloc::Global;
 use std::marker::Model;
 
@@ -127,5 +127,37 @@ impl TaskPart {
             answer: Answer::Go,
             number: 0,
         })
+    }
+
+    /// Holds a task, so that it is not removed. It takes no memory.
+    pub fn hold(
+        &mut self,
+        _alloc: Global,
+        _task: OsalId,
+        _now: Moment,
+        id: OsalId,
+        room: &mut Room,
+    ) -> Result<Ack, OutOfMemory>
+        ensures step { IfOk result (λ ack. (replied ack room.new, self.new) ≡ hold_step self.old id) }
+        ensures memory { IsOk result }
+    {
+        room.clear();
+        Ok(hold(&mut self.table, id))
+    }
+
+    /// Gives a hold of a task back. It takes no memory.
+    pub fn release(
+        &mut self,
+        _alloc: Global,
+        _task: OsalId,
+        _now: Moment,
+        id: OsalId,
+        room: &mut Room,
+    ) -> Result<Ack, OutOfMemory>
+        ensures step { IfOk result (λ ack. (replied ack room.new, self.new) ≡ release_step self.old id) }
+        ensures memory { IsOk result }
+    {
+        room.clear();
+        Ok(release(&mut self.table, id))
     }
 }

@@ -1,4 +1,4 @@
-use Rattle.std.proofs.Common.{◌≡◌, subst, length}
+use Rattle.std.proofs.Common.{subst}
 use Rattle.osal_script.specs.Script.{IsStep}
 use Rattle.osal_script.specs.declared.cursor.Step.TheVariants.{Make}
 use Rattle.osal_exec.proofs.Turns.{turn_driving, turn_fewer, turn_part, on_err_always}
