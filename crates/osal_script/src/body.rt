@@ -60,20 +60,21 @@ pub struct App {
 }
 
 impl Model for App {
-    ghost use Rattle.std.specs.Prelude.{◌<◌, length};
+    ghost use Rattle.std.specs.Prelude.{◌<◌, ◌^◌, length};
     ghost use Rattle.osal_script.specs.App.{Application};
 
     ghost Value = { Application };
 
     ghost view = { λ a. record { version = 1; bodies = a.bodies.items } };
 
-    ghost invariant = { λ a. 0 < length a.bodies.items };
+    ghost invariant = { λ a. (0 < length a.bodies.items) × (length a.bodies.items < 2 ^ 32) };
 }
 
 impl App {
     /// The application of these bodies.
     pub fn new(bodies: Vec<Body>) -> App
-        requires { 0 < length bodies.items }
+        requires some { 0 < length bodies.items }
+        requires countable { length bodies.items < 2 ^ 32 }
         ensures { result ≡ record { version = 1; bodies = bodies.items } }
     {
         App { bodies }
@@ -81,7 +82,6 @@ impl App {
 
     /// How many bodies there are.
     pub fn bodies(&self) -> u32
-        requires { length self.now.bodies < 2 ^ 32 }
         ensures { result ≡ length self.now.bodies }
     {
         self.bodies.len() as u32

@@ -31,6 +31,10 @@ fn read_finish(draft: Draft, number: u32) -> Result<App, ParseFault>
             kind: FaultKind::End,
         }));
     }
+    // An application counts its bodies in 32 bits; memory ends long before.
+    if bodies.len() > u32::MAX as usize {
+        return Err(ParseFault::OutOfMemory);
+    }
     Ok(App::new(bodies))
 }
 
