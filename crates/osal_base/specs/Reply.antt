@@ -1,5 +1,5 @@
 -- Replies as contracts see them.
-use Rattle.std.specs.Prelude.{List, [], ℕ, pos}
+use Rattle.std.specs.Prelude.{List, [], ℕ, Bool, true, false, pos}
 use Rattle.osal_base.specs.declared.status.Status.{Status}
 use Rattle.osal_base.specs.declared.reply.Answer.{Answer}
 use Rattle.osal_base.specs.declared.reply.Answer.TheVariants as answer
@@ -40,3 +40,18 @@ success = gives 0
 -- the task goes on
 abbrev pub goes_on : Replied
 goes_on = record { answer = answer.Go; number = 0; bytes = [] }
+
+-- the call has to wait
+abbrev pub waits : Replied
+waits = record { answer = answer.Waits; number = 0; bytes = [] }
+
+-- the task was deleted
+abbrev pub deleted : Replied
+deleted = record { answer = answer.Deleted; number = 0; bytes = [] }
+
+-- whether an answer says that the call has to wait
+abbrev pub is_waits : Answer → Bool
+is_waits answer.Waits = true
+is_waits (answer.Code code) = false
+is_waits answer.Go = false
+is_waits answer.Deleted = false

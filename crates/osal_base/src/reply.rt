@@ -1,6 +1,6 @@
 //! What a call answers.
 ghost use Rattle.std.specs.Prelude.{◌≡◌, []};
-ghost use Rattle.osal_base.specs.Reply.{Replied, replied, refusal, gives, success};
+ghost use Rattle.osal_base.specs.Reply.{Replied, replied, refusal, gives, success, waits, goes_on, deleted};
 
 use crate::{Bytes, Status};
 use std::alloc::{AllocError, AllocFailed};
@@ -53,6 +53,36 @@ impl Ack {
         Ack {
             answer: Answer::Code(0),
             number,
+        }
+    }
+
+    /// The call has to wait; `wait_end` gives its answer.
+    pub const fn waits() -> Ack
+        ensures { replied result [] ≡ waits }
+    {
+        Ack {
+            answer: Answer::Waits,
+            number: 0,
+        }
+    }
+
+    /// The task goes on.
+    pub const fn goes_on() -> Ack
+        ensures { replied result [] ≡ goes_on }
+    {
+        Ack {
+            answer: Answer::Go,
+            number: 0,
+        }
+    }
+
+    /// The task was deleted.
+    pub const fn deleted() -> Ack
+        ensures { replied result [] ≡ deleted }
+    {
+        Ack {
+            answer: Answer::Deleted,
+            number: 0,
         }
     }
 }

@@ -1,5 +1,5 @@
 -- The first task of a machine without objects gets the first identifier, and is active.
-use Rattle.std.proofs.Common.{◌≡◌, ◌||◌, ℕ, Bool, true, false, List, [], ◌∷◌, Option, Some, None, Result, Ok, Err, length, refl, sym, ap, ◌∙◌, arith, is_some, cond, not, find}
+use Rattle.std.proofs.Common.{◌≡◌, ◌||◌, ℕ, Bool, true, false, List, [], ◌∷◌, Option, Some, None, Result, Ok, Err, length, refl, sym, ap, ◌∙◌, arith, cond, not, find}
 use Rattle.std.specs.List.{list_any}
 use Rattle.std.specs.Ordering.{nat_cmp}
 use Rattle.std.specs.Cmp.{nat_cmp_total}
@@ -12,7 +12,7 @@ use Rattle.osal_idtable.specs.Next.{is_free_at, next_place, candidates}
 use Rattle.osal_idtable.specs.declared.table.ReserveFault.{ReserveFault}
 use Rattle.osal_idtable.specs.declared.table.ReserveFault.TheVariants as reserve_fault
 use Rattle.osal_idtable.specs.Steps.{reserve_step, issue, settle}
-use Rattle.osal_idtable.specs.Objects.{create_step, created}
+use Rattle.osal_idtable.specs.Objects.{no_objects, create_step, created}
 
 -- a list without elements
 no_elements : {A : Type 0} (xs : List A) → length xs ≡ 0 → xs ≡ []
@@ -36,16 +36,16 @@ first_found : {X : Type 0} (test : X → Bool) (x : X) (xs : List X) → test x 
 first_found test x xs passes = ap (λ b. cond b (Some x) (find test xs)) passes
 
 -- the table of tasks before the first
-abbrev no_objects : (T : Type 0) → TableState T
-no_objects T = opening 1 64
+abbrev no_tasks : (T : Type 0) → TableState T
+no_tasks T = opening 1 64
 
 module _ (T : Type 0) (name : List ℕ) (object : T) where
   -- each place is free
-  all_free : (place : Place) → is_free_at (no_objects T) place ≡ true
+  all_free : (place : Place) → is_free_at (no_tasks T) place ≡ true
   all_free place = ap not (neither _ _ (none_passes {X = Active T} _) (none_passes {X = Option (List ℕ)} _))
 
   -- no name is taken
-  no_name : is_name_taken (no_objects T) (Some name) ≡ false
+  no_name : is_name_taken (no_tasks T) (Some name) ≡ false
   no_name = neither _ _ (none_passes {X = Active T} _) (none_passes {X = Option (List ℕ)} _)
 
   -- what the first reservation gives
@@ -54,24 +54,28 @@ module _ (T : Type 0) (name : List ℕ) (object : T) where
 
   -- the table with the first identifier reserved
   abbrev with_first : TableState T
-  with_first = record (no_objects T) { reserved = map.insert map.empty 65537 (Some name); last = 1; wraps = 0 }
+  with_first = record (no_tasks T) { reserved = map.insert map.empty 65537 (Some name); last = 1; wraps = 0 }
+
+  -- what stands under the first identifier
+  abbrev first_object : Active T
+  first_object = record { name = Some name; holds = 0; object = object }
 
   -- the first reservation gives the first identifier
-  reserves_first : ◌≡◌ {A = Result Reserved ReserveFault × TableState T} (reserve_step (no_objects T) (Some name)) (Ok first_reserved, with_first)
+  reserves_first : ◌≡◌ {A = Result Reserved ReserveFault × TableState T} (reserve_step (no_tasks T) (Some name)) (Ok first_reserved, with_first)
   reserves_first =
-      ap (λ b. cond {A = Result Reserved ReserveFault × TableState T} b (Err reserve_fault.NameTaken, no_objects T) (issue (no_objects T) (Some name) (next_place (no_objects T)))) no_name
-      ∙ ap (issue (no_objects T) (Some name)) (first_found (is_free_at (no_objects T)) (record { serial = 1; wraps = 0 }) (candidates 64 63 (record { serial = 1; wraps = 0 })) (all_free (record { serial = 1; wraps = 0 })))
+      ap (λ b. cond {A = Result Reserved ReserveFault × TableState T} b (Err reserve_fault.NameTaken, no_tasks T) (issue (no_tasks T) (Some name) (next_place (no_tasks T)))) no_name
+      ∙ ap (issue (no_tasks T) (Some name)) (first_found (is_free_at (no_tasks T)) (record { serial = 1; wraps = 0 }) (candidates 64 63 (record { serial = 1; wraps = 0 })) (all_free (record { serial = 1; wraps = 0 })))
 
   -- the name that the first identifier is reserved under
   first_name : map.get with_first.reserved 65537 ≡ Some (Some name)
   first_name = map.get-insert nat_cmp_total map.empty 65537 (Some name) 65537
 
   -- the first object is active under the first identifier
-  pub first_active : is_some (active_at (create_step (no_objects T) name object).1 65537) ≡ true
-  first_active =
-      ap (λ (r : Result Reserved ReserveFault × TableState T). is_some (active_at (created object r.0 r.1).1 65537)) reserves_first
-      ∙ ap (λ n. is_some (active_at (settle with_first 65537 n (Some object)) 65537)) first_name
-      ∙ ap is_some (map.get-insert nat_cmp_total map.empty 65537 (record { name = Some name; holds = 0; object = object }) 65537)
+  pub first_active : (W : Type 0) → active_at (create_step (no_objects {T = T} {W = W} 1 64 64) name object).1.table 65537 ≡ Some first_object
+  first_active W =
+      ap (λ (r : Result Reserved ReserveFault × TableState T). active_at (created (no_objects {T = T} {W = W} 1 64 64) object r.0 r.1).1.table 65537) reserves_first
+      ∙ ap (λ n. active_at (settle with_first 65537 n (Some object)) 65537) first_name
+      ∙ map.get-insert nat_cmp_total map.empty 65537 first_object 65537
 
 -- a name has no fault
 pub no_fault : (name : List ℕ) → IsName name → name_fault name ≡ None

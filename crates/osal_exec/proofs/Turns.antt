@@ -1,19 +1,21 @@
 -- One more call of the first task keeps the journal a front of a run.
-use Rattle.std.proofs.Common.{Result, Ok, Err, OnErr, ◌≡◌, ◌<◌, ◌+◌, ◌*◌, ℕ, Bool, true, List, [], ◌∷◌, ◌++◌, Option, Some, None, length, refl, sym, ap, subst, ◌∙◌, arith, is_some, cond, nat_lt}
+use Rattle.std.proofs.Common.{Result, Ok, Err, OnErr, ◌≡◌, ◌<◌, ◌+◌, ◌*◌, ℕ, true, List, [], ◌∷◌, ◌++◌, Option, Some, None, length, refl, sym, ap, subst, ◌∙◌, arith}
+use Rattle.std.proofs.lemmas.Bool.{cond-false, not-true}
 use Rattle.osal_base.specs.Limits.{version1}
-use Rattle.osal_base.specs.Reply.{Replied, reply_of, goes_on, refusal}
+use Rattle.osal_base.specs.Reply.{Replied, reply_of, goes_on}
 use Rattle.osal_base.specs.declared.reply.Answer.{Answer}
 use Rattle.osal_base.specs.declared.reply.Answer.TheVariants as answer
-use Rattle.osal_base.specs.declared.status.Status.TheVariants as status
+use Rattle.osal_base.specs.declared.time.Moment.{Moment}
 use Rattle.osal_base.specs.declared.name.NameFault.{NameFault}
 use Rattle.osal_base.specs.Text.{Text}
 use Rattle.osal_base.specs.Name.{IsName, name_fault}
 use Rattle.osal_task.specs.declared.part.Task.{Task}
-use Rattle.osal_task.specs.Tasks.{TaskState, no_tasks, create_named, in_table}
+use Rattle.osal_task.specs.Tasks.{TaskState, no_tasks, new_task, in_tasks, task_at, is_unmarked, goes, passed_by}
+use Rattle.osal_idtable.specs.Faults.{unless}
 use Rattle.osal_idtable.specs.Objects.{create_step}
 use Rattle.osal_exec.proofs.Active.{line_keeps}
 use Rattle.osal_exec.proofs.First.{first_active, no_fault}
-use Rattle.osal_idtable.specs.Table.{active_at}
+use Rattle.osal_idtable.specs.Table.{Active}
 use Rattle.osal_machine.specs.declared.call.Call.{Call}
 use Rattle.osal_machine.specs.declared.call.Call.TheVariants as call
 use Rattle.osal_machine.specs.declared.call.Entry.{Entry}
@@ -46,52 +48,44 @@ follows_body_push body (first ∷ entries) entry begun follows of_main next = (
   },
 )
 
--- what the first task's next call does: a checkpoint goes on, and the task stays active until its exit
+-- what the first task's next call does: a checkpoint goes on, and the task stays active and unmarked until its exit
 pub record Goes (script : ScriptState) (state left : MachineState) (replied : Replied) : Type 0 where
   pub answered : IsCheckpointAnswer script.phase replied.answer
   pub running : IsRunning (after script replied).phase left
 
--- an active task's checkpoint goes on
-checkpoint_goes : (tasks : TaskState) (b : Bool) → b ≡ true → ◌≡◌ {A = Replied × TaskState} (cond b (goes_on, tasks) (refusal status.ErrInvalidId, tasks)) (goes_on, tasks)
-checkpoint_goes tasks b active = ap (λ v. cond {A = Replied × TaskState} v (goes_on, tasks) (refusal status.ErrInvalidId, tasks)) active
+-- a task that is active and not marked goes on at its checkpoint
+checkpoint_goes : (tasks : TaskState) (task : ℕ) (found : Option (Active Task)) → is_unmarked found ≡ true → passed_by tasks task found ≡ (goes_on, tasks)
+checkpoint_goes tasks task None going = absurd (cc)
+checkpoint_goes tasks task (Some active) going = cond-false active.object.marked _ _ (not-true active.object.marked going)
 
 -- a checkpoint before a line or the exit
-goes_before : (lines : List Line) (registers : List ℕ) (state : MachineState) (made : Call) → is_some (active_at state.tasks.table main_id) ≡ true → Some call.Checkpoint ≡ Some (said made) → Goes (record { phase = phase.Before; lines = lines; registers = registers }) state (step state main_id made).1 (step state main_id made).0
-goes_before lines registers state (call.TaskCreate name body stack priority) active is = absurd (cc)
-goes_before lines registers state call.TaskExit active is = absurd (cc)
-goes_before lines registers state (call.BinSemCreate name value) active is = absurd (cc)
-goes_before lines registers state (call.BinSemTake id wait) active is = absurd (cc)
-goes_before lines registers state (call.BinSemGive id) active is = absurd (cc)
-goes_before lines registers state (call.BinSemDelete id) active is = absurd (cc)
-goes_before lines registers state (call.BinSemFind name) active is = absurd (cc)
-goes_before lines registers state (call.BinSemInfo id) active is = absurd (cc)
-goes_before lines registers state (call.Hold id) active is = absurd (cc)
-goes_before lines registers state (call.Release id) active is = absurd (cc)
-goes_before lines registers state call.Checkpoint active is =
-    let e = checkpoint_goes state.tasks (is_some (active_at state.tasks.table main_id)) active in
+goes_before : (lines : List Line) (registers : List ℕ) (state : MachineState) (now : Moment) (made : Call) → goes state.tasks main_id ≡ true → Some call.Checkpoint ≡ Some (said made) → Goes (record { phase = phase.Before; lines = lines; registers = registers }) state (step state main_id now made).1 (step state main_id now made).0
+goes_before lines registers state now call.Checkpoint going is =
+    let e = checkpoint_goes state.tasks main_id (task_at state.tasks main_id) going in
     record {
       answered = subst (λ (r : Replied × TaskState). IsCheckpointAnswer phase.Before r.0.answer) (sym e) tt;
-      running = subst (λ (r : Replied × TaskState). IsRunning (after (record { phase = phase.Before; lines = lines; registers = registers }) r.0).phase (record state { tasks = r.1 })) (sym e) active;
+      running = subst (λ (r : Replied × TaskState). IsRunning (after (record { phase = phase.Before; lines = lines; registers = registers }) r.0).phase (record state { tasks = r.1 })) (sym e) going;
     }
+goes_before lines registers state now other going is = absurd (cc)
 
 -- a line or the exit
-goes_at : (lines : List Line) (registers : List ℕ) (state : MachineState) (made : Call) → is_some (active_at state.tasks.table main_id) ≡ true → Some (line_call lines registers) ≡ Some (said made) → Goes (record { phase = phase.At; lines = lines; registers = registers }) state (step state main_id made).1 (step state main_id made).0
-goes_at [] registers state made active is = record { answered = tt; running = tt }
-goes_at (line ∷ lines) registers state made active is =
-    record { answered = tt; running = line_keeps state main_id active line.call registers made is }
+goes_at : (lines : List Line) (registers : List ℕ) (state : MachineState) (now : Moment) (made : Call) → goes state.tasks main_id ≡ true → Some (line_call lines registers) ≡ Some (said made) → Goes (record { phase = phase.At; lines = lines; registers = registers }) state (step state main_id now made).1 (step state main_id now made).0
+goes_at [] registers state now made going is = record { answered = tt; running = tt }
+goes_at (line ∷ lines) registers state now made going is =
+    record { answered = tt; running = line_keeps state main_id now going line.call registers made is }
 
 -- the next call of a script
-goes_next : (at : Phase) (lines : List Line) (registers : List ℕ) (state : MachineState) (made : Call) → IsRunning at state → next_call (record { phase = at; lines = lines; registers = registers }) ≡ Some (said made) → Goes (record { phase = at; lines = lines; registers = registers }) state (step state main_id made).1 (step state main_id made).0
-goes_next phase.Before lines registers state made running is = goes_before lines registers state made running is
-goes_next phase.At lines registers state made running is = goes_at lines registers state made running is
-goes_next phase.Ended lines registers state made running is = absurd (cc)
+goes_next : (at : Phase) (lines : List Line) (registers : List ℕ) (state : MachineState) (now : Moment) (made : Call) → IsRunning at state → next_call (record { phase = at; lines = lines; registers = registers }) ≡ Some (said made) → Goes (record { phase = at; lines = lines; registers = registers }) state (step state main_id now made).1 (step state main_id now made).0
+goes_next phase.Before lines registers state now made running is = goes_before lines registers state now made running is
+goes_next phase.At lines registers state now made running is = goes_at lines registers state now made running is
+goes_next phase.Ended lines registers state now made running is = absurd (cc)
 
 -- the journal with the entry of the script's next call is driven as well
 pub driving_more : (body : ScriptBody) (entries : List Entry) (state left : MachineState) (script : ScriptState) (made : Call) (entry : Entry) → IsDriving body entries state script → next_call script ≡ Some (said made) → MakesEntry main_caller main_id made state left entry → IsDriving body (entries ++ entry ∷ []) left (after script (reply_of entry.reply))
 driving_more body entries state left script made entry driving is makes =
-    let goes = goes_next script.phase script.lines script.registers state made driving.running is in
+    let goes = goes_next script.phase script.lines script.registers state entry.now made driving.running is in
     let said_same : said entry.call ≡ said made = ap said makes.of_call in
-    let step_same : step (replay version1 entries) entry.task entry.call ≡ step state main_id made = ap (λ s. step s entry.task entry.call) (sym driving.replayed) ∙ ap (λ t. step state t entry.call) makes.of_task ∙ ap (λ c. step state main_id c) makes.of_call in
+    let step_same : step (replay version1 entries) entry.task entry.now entry.call ≡ step state main_id entry.now made = ap (λ s. step s entry.task entry.now entry.call) (sym driving.replayed) ∙ ap (λ t. step state t entry.now entry.call) makes.of_task ∙ ap (λ c. step state main_id entry.now c) makes.of_call in
     record {
       legal = legal_push (opening version1) entries entry driving.legal (makes.replied ∙ sym (ap (λ (r : Replied × MachineState). r.0) step_same));
       replayed = makes.left ∙ sym (replay_push (opening version1) entries entry ∙ ap (λ (r : Replied × MachineState). r.1) step_same);
@@ -101,7 +95,7 @@ driving_more body entries state left script made entry driving is makes =
       }));
       begun = grind arith;
       reached = ap (λ s. after s (reply_of entry.reply)) driving.reached ∙ sym (main_state_push body entries entry driving.begun);
-      running = subst (λ (r : Replied). IsRunning (after script r).phase left) (sym makes.replied) (subst (λ s. IsRunning (after script (step state main_id made).0).phase s) (sym makes.left) goes.running);
+      running = subst (λ (r : Replied). IsRunning (after script r).phase left) (sym makes.replied) (subst (λ s. IsRunning (after script (step state main_id entry.now made).0).phase s) (sym makes.left) goes.running);
     }
 
 -- a checkpoint leaves fewer calls, whatever its answer
@@ -147,12 +141,9 @@ module _ (body : ScriptBody) (old new : List Entry) (state left : MachineState) 
   pub turn_part : IsPartDriven body new
   turn_part = record { legal = more.legal; follows = more.follows }
 
--- a fact on the table after a create holds where the name has no fault
-create_under : (tasks : TaskState) (name : List ℕ) (task : Task) (fault : Option NameFault) → task.priority ≡ 0 → fault ≡ None → is_some (active_at (create_step tasks.table name task).1 main_id) ≡ true → is_some (active_at (create_named tasks name task fault).1.table main_id) ≡ true
-create_under tasks name task fault low none active =
-    ap (λ f. is_some (active_at (create_named tasks name task f).1.table main_id)) none
-    ∙ ap (λ p. is_some (active_at (cond {A = Replied × TaskState} (nat_lt 255 p) (refusal status.ErrInvalidPriority, tasks) (in_table (create_step tasks.table name task))).1.table main_id)) low
-    ∙ active
+-- the task goes where it does so after a call under a name that has no fault
+goes_under : (tasks : TaskState) (fault : Option NameFault) (otherwise : Replied × TaskState) → fault ≡ None → goes otherwise.1 main_id ≡ true → goes (unless fault tasks otherwise).1 main_id ≡ true
+goes_under tasks fault otherwise none going = ap (λ f. goes (unless f tasks otherwise).1 main_id) none ∙ going
 
 -- a journal of the first entry alone is driven
 pub begins : (body : ScriptBody) (name : Text) (old new : List Entry) (state left : MachineState) → IsName body.name → name.bytes ≡ body.name → state ≡ opening version1 → old ≡ [] → AddsEntry 0 0 (call.TaskCreate name 0 0 0) state left old new → IsDriving body new left (start_of body)
@@ -160,8 +151,8 @@ begins body name old new state left is_name same opened empty adds =
     let first = adds.0 in
     let makes : MakesEntry 0 0 (call.TaskCreate name 0 0 0) (opening version1) left first = subst (λ s. MakesEntry 0 0 (call.TaskCreate name 0 0 0) s left first) opened adds.2 in
     let whole : first ∷ [] ≡ new = sym (adds.1 ∙ ap (λ es. es ++ first ∷ []) empty) in
-    let step_same : step (opening version1) first.task first.call ≡ step (opening version1) 0 (call.TaskCreate name 0 0 0) = ap (λ t. step (opening version1) t first.call) makes.of_task ∙ ap (λ c. step (opening version1) 0 c) makes.of_call in
-    let active : is_some (active_at (step (opening version1) 0 (call.TaskCreate name 0 0 0)).1.tasks.table main_id) ≡ true = create_under (no_tasks version1) name.bytes (record { body = 0; stack = 0; priority = 0 }) (name_fault name.bytes) refl (no_fault name.bytes (subst IsName (sym same) is_name)) (first_active Task name.bytes (record { body = 0; stack = 0; priority = 0 })) in
+    let step_same : step (opening version1) first.task first.now first.call ≡ step (opening version1) 0 first.now (call.TaskCreate name 0 0 0) = ap (λ t. step (opening version1) t first.now first.call) makes.of_task ∙ ap (λ c. step (opening version1) 0 first.now c) makes.of_call in
+    let going : goes (step (opening version1) 0 first.now (call.TaskCreate name 0 0 0)).1.tasks main_id ≡ true = goes_under (no_tasks version1) (name_fault name.bytes) (in_tasks (create_step (no_tasks version1).objects name.bytes (new_task 0 0 0))) (no_fault name.bytes (subst IsName (sym same) is_name)) (ap is_unmarked (first_active Task name.bytes (new_task 0 0 0) (Unit {0}))) in
     subst (λ entries. IsDriving body entries left (start_of body)) whole (record {
       legal = (makes.replied ∙ sym (ap (λ (r : Replied × MachineState). r.0) step_same), tt);
       replayed = makes.left ∙ sym (ap (λ (r : Replied × MachineState). r.1) step_same);
@@ -176,7 +167,7 @@ begins body name old new state left is_name same opened empty adds =
       );
       begun = omega arith;
       reached = refl;
-      running = subst (λ s. is_some (active_at s.tasks.table main_id) ≡ true) (sym makes.left) active;
+      running = subst (λ s. goes s.tasks main_id ≡ true) (sym makes.left) going;
     })
 
 -- what always holds holds at an error

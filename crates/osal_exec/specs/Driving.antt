@@ -1,8 +1,8 @@
 -- What a driver has done so far.
-use Rattle.std.specs.Prelude.{◌≡◌, ◌<◌, ◌+◌, ◌*◌, ◌++◌, List, [], ◌∷◌, ℕ, true, length, is_some}
+use Rattle.std.specs.Prelude.{◌≡◌, ◌<◌, ◌+◌, ◌*◌, ◌++◌, List, [], ◌∷◌, ℕ, true, length}
 use Rattle.osal_base.specs.Limits.{version1}
 use Rattle.osal_base.specs.Reply.{reply_of}
-use Rattle.osal_idtable.specs.Table.{active_at}
+use Rattle.osal_task.specs.Tasks.{goes}
 use Rattle.osal_machine.specs.declared.call.Call.{Call}
 use Rattle.osal_machine.specs.declared.call.Entry.{Entry}
 use Rattle.osal_machine.specs.Step.{MachineState, step}
@@ -19,8 +19,8 @@ pub record MakesEntry (caller task : ℕ) (call : Call) (before after : MachineS
   pub of_task : entry.task ≡ task
   pub at_start : entry.now.ms ≡ 0
   pub of_call : entry.call ≡ call
-  pub replied : reply_of entry.reply ≡ (step before task call).0
-  pub left : after ≡ (step before task call).1
+  pub replied : reply_of entry.reply ≡ (step before task entry.now call).0
+  pub left : after ≡ (step before task entry.now call).1
 
 -- the call added one entry to the journal
 abbrev pub AddsEntry : ℕ → ℕ → Call → MachineState → MachineState → List Entry → List Entry → Type 0
@@ -32,10 +32,10 @@ abbrev pub main_state : ScriptBody → List Entry → ScriptState
 main_state body [] = start_of body
 main_state body (first ∷ entries) = reached (start_of body) entries
 
--- a task whose script has not ended is active
+-- a task whose script has not ended is active and not marked for deletion
 abbrev pub IsRunning : Phase → MachineState → Type 0
-IsRunning phase.Before state = is_some (active_at state.tasks.table main_id) ≡ true
-IsRunning phase.At state = is_some (active_at state.tasks.table main_id) ≡ true
+IsRunning phase.Before state = goes state.tasks main_id ≡ true
+IsRunning phase.At state = goes state.tasks main_id ≡ true
 IsRunning phase.Ended state = Unit {0}
 
 -- the journal so far is a legal history that follows the body, and the machine and the cursor are where it leads

@@ -1,6 +1,6 @@
 //! The driver of one task.
 ghost use Rattle.std.specs.Prelude.{◌≡◌, [], ◌∷◌, ◌++◌, ◌<◌, length, IfOk, OnOk, OnErr};
-ghost use Rattle.osal_machine.specs.Call.{IsBuilt, text_of, said};
+ghost use Rattle.osal_machine.specs.Call.{text_of, said};
 ghost use Rattle.osal_machine.specs.Step.{opening};
 ghost use Rattle.osal_base.specs.Limits.{version1};
 ghost use Rattle.osal_script.specs.Runs.{main_id, main_caller, IsPartRun, IsRun, FollowsBody, CreatesMain};
@@ -38,7 +38,6 @@ fn make(
     task: OsalId,
     call: Call,
 ) -> Result<(), OutOfMemory>
-    requires { IsBuilt call }
     ensures made { OnOk result (AddsEntry caller task call whole.old whole.new journal.old.entries journal.new.entries) }
     ensures memory { OnErr result (journal.new.entries ≡ journal.old.entries) }
 {

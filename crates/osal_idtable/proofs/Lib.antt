@@ -11,3 +11,12 @@ pub mod Looks
 pub mod Serials
 pub mod WellFormed
 pub mod Written
+pub mod ByCalls
+pub mod Activity
+pub mod ActiveOnce
+pub mod Records
+pub mod Apart
+pub mod HeldEach
+pub mod Balance
+pub mod Counted
+pub mod CallersHold

@@ -73,13 +73,14 @@ same_serial first second kind same room (inr (inr later)) = absurd (omega arith)
 
 module _ {T : Type 0} where
   -- a reservation that was answered: the place that it took
-  record Issued (table : TableState T) (reserved : Reserved) (o : Option Place) (new : TableState T) : Type 0 where
-    place : Place
-    found : o ≡ Some place
-    id : reserved.id ≡ compose table.kind place.serial
-    at : place_of new ≡ place
+  pub record Issued (table : TableState T) (reserved : Reserved) (o : Option Place) (new : TableState T) : Type 0 where
+    pub place : Place
+    pub found : o ≡ Some place
+    pub id : reserved.id ≡ compose table.kind place.serial
+    pub at : place_of new ≡ place
 
-  issued : (table : TableState T) (name : Option (List ℕ)) (b : Bool) (o : Option Place) (reserved : Reserved) → (cond b (Err reserve_fault.NameTaken, table) (issue table name o)).0 ≡ Ok reserved → Issued table reserved o (cond b (Err reserve_fault.NameTaken, table) (issue table name o)).1
+  -- what is answered was issued at the next place
+  pub issued : (table : TableState T) (name : Option (List ℕ)) (b : Bool) (o : Option Place) (reserved : Reserved) → (cond b (Err reserve_fault.NameTaken, table) (issue table name o)).0 ≡ Ok reserved → Issued table reserved o (cond b (Err reserve_fault.NameTaken, table) (issue table name o)).1
   issued table name true o reserved is = cc
   issued table name false None reserved is = cc
   issued table name false (Some place) reserved is = record {
@@ -102,7 +103,8 @@ module _ {T : Type 0} where
   stays : (table : TableState T) → Stays table table
   stays table = (refl, refl)
 
-  settle_stays : (table : TableState T) (id : ℕ) (o : Option (Option (List ℕ))) (value : Option T) → Stays table (settle table id o value)
+  -- a finalization leaves the course of serials
+  pub settle_stays : (table : TableState T) (id : ℕ) (o : Option (Option (List ℕ))) (value : Option T) → Stays table (settle table id o value)
   settle_stays table id None value = (refl, refl)
   settle_stays table id (Some name) None = (refl, refl)
   settle_stays table id (Some name) (Some object) = (refl, refl)

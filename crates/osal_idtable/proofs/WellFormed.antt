@@ -1,5 +1,5 @@
 -- A table stays well formed.
-use Rattle.std.proofs.Common.{◌≡◌, ◌<◌, ◌≤◌, ◌⊎◌, ◌+◌, ◌-◌, ◌*◌, ◌/◌, ◌%◌, ◌^◌, ◌==◌, ◌||◌, ℕ, zero, suc, min, Bool, true, false, not, cond, eqb, find, List, [], ◌∷◌, nat_lt, Option, Some, None, Result, Ok, Err, refl, sym, ap, subst, ◌∙◌, inl, inr, arith}
+use Rattle.std.proofs.Common.{◌≡◌, ◌<◌, ◌≤◌, ◌⊎◌, ◌+◌, ◌-◌, ◌==◌, ℕ, zero, suc, Bool, true, false, not, cond, eqb, find, List, [], ◌∷◌, nat_lt, Option, Some, None, Result, Ok, Err, refl, sym, ap, subst, ◌∙◌, inl, inr, arith}
 use Rattle.std.specs.List.{list_any}
 use Rattle.std.specs.Ordering.{nat_cmp, eq_by_cmp}
 use Rattle.std.specs.Cmp.{nat_cmp_total}
@@ -231,7 +231,7 @@ type_is : (kind serial : ℕ) → serial < 65536 → type_of (compose kind seria
 type_is kind serial below = omega arith
 
 -- an identifier of the table has a slot that is taken
-missed : {T : Type 0} (table : TableState T) (q at : ℕ) (n : Option (List ℕ)) (o : Option (Active T)) → is_slot_taken table at ≡ false → active_at table q ≡ o → known_as o (map.get table.reserved q) ≡ Some n → eqb (slot_of q table.capacity) at ≡ false
+pub missed : {T : Type 0} (table : TableState T) (q at : ℕ) (n : Option (List ℕ)) (o : Option (Active T)) → is_slot_taken table at ≡ false → active_at table q ≡ o → known_as o (map.get table.reserved q) ≡ Some n → eqb (slot_of q table.capacity) at ≡ false
 missed table q at n None vacant is known =
     let parts = or_parts (list_any (λ e. slot_of e.0 table.capacity == at) (map.entries table.active)) (list_any (λ e. slot_of e.0 table.capacity == at) (map.entries table.reserved)) vacant in
     not_held table.reserved (λ e. slot_of e.0 table.capacity == at) q n parts.1 known
@@ -319,7 +319,8 @@ module _ {T : Type 0} (table : TableState T) (good : IsWellFormed table) where
   called_good (Hold id) = held_good table good id (active_at table id) refl
   called_good (Release id) = released_good table good id (active_at table id) refl
 
-no_active : (T : Type 0) (kind capacity id : ℕ) (a : Active T) → active_at (opening kind capacity) id ≡ Some a → ⊥
+-- at the opening nothing is active
+pub no_active : (T : Type 0) (kind capacity id : ℕ) (a : Active T) → active_at (opening kind capacity) id ≡ Some a → ⊥
 no_active T kind capacity id a is = let none : None ≡ Some a = sym (map.get-empty nat_cmp id) ∙ is in cc
 
 no_names : (T : Type 0) (kind capacity id : ℕ) (n : Option (List ℕ)) → name_at (opening {T = T} kind capacity) id ≡ Some n → ⊥

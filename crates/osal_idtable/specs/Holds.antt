@@ -1,5 +1,5 @@
 -- How the holds of an object change.
-use Rattle.std.specs.Prelude.{ℕ, ◌+◌, ◌-◌, Option, Some, None, Result, Ok, Err, nat_lt, if◌then◌else◌}
+use Rattle.std.specs.Prelude.{ℕ, Bool, false, ◌+◌, ◌-◌, Option, Some, None, Result, Ok, Err, nat_lt, if◌then◌else◌}
 use Rattle.osal_idtable.specs.declared.table.IdFault.{IdFault}
 use Rattle.osal_idtable.specs.declared.table.IdFault.TheVariants as id_fault
 use Rattle.osal_idtable.specs.Table.{Active, TableState, active_at, with_active, hold_limit}
@@ -9,6 +9,11 @@ module _ {T : Type 0} where
   abbrev pub holds_of : Option (Active T) → Result ℕ IdFault
   holds_of None = Err id_fault.InvalidId
   holds_of (Some active) = Ok active.holds
+
+  -- whether an active identifier has holds
+  abbrev pub is_held : Option (Active T) → Bool
+  is_held None = false
+  is_held (Some active) = nat_lt 0 active.holds
 
   -- one hold more, below the limit
   abbrev pub held : TableState T → ℕ → Option (Active T) → Result (Unit {0}) IdFault × TableState T

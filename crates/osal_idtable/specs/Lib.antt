@@ -1,6 +1,8 @@
 pub use Rattle.osal_base.specs.Identifier
 pub use Rattle.osal_base.specs.Name
 pub use Rattle.osal_base.specs.Limits
+pub use Rattle.osal_base.specs.Reply
+pub use Rattle.osal_base.specs.Time
 pub mod Table
 pub mod Code
 pub mod Next
@@ -13,4 +15,10 @@ pub mod Slots
 pub mod Sound
 pub mod SlotSteps
 pub mod Lends
+pub mod Faults
+pub mod Standing
+pub mod Waits
 pub mod Objects
+pub mod Waiting
+pub mod Moves
+pub mod ObjectLaws

@@ -1,107 +1,186 @@
-//! The steps that every kind of object shares.
-ghost use Rattle.std.specs.Prelude.{◌≡◌, []};
+//! A table of objects beside the waits that stand on them.
+ghost use Rattle.std.specs.Prelude.{◌≡◌, [], IfOk, IsTrue, is_some, option_copied, MatchResult, Ok, Err};
+ghost use Rattle.osal_base.specs.Identifier.{type_number};
+ghost use Rattle.osal_base.specs.Limits.{IsCapacity};
 ghost use Rattle.osal_base.specs.Reply.{replied};
-ghost use Rattle.osal_idtable.specs.Objects.{name_status, reserve_status, id_status, create_step, delete_step, find_reply, hold_call_step, release_call_step};
+ghost use Rattle.osal_idtable.specs.Table.{active_at};
+ghost use Rattle.osal_idtable.specs.Steps.{lookup};
+ghost use Rattle.osal_idtable.specs.Looks.{name_under};
+ghost use Rattle.osal_idtable.specs.Holds.{holds_of, is_held};
+ghost use Rattle.osal_idtable.specs.Waits.{wait_of, stands_on};
+ghost use Rattle.osal_idtable.specs.Objects.{no_objects, with_value, create_step, delete_step, find_reply, hold_call_step, release_call_step};
+ghost use Rattle.osal_idtable.specs.Waiting.{begin_step, end_wait, abandon_step, release_waits};
 
-use crate::{IdFault, ReserveFault, Table};
-use osal_base::{Ack, Name, NameFault, OsalId, Status};
+mod waiting;
 
-/// The holds of callers at which one more is refused.
+use crate::waits::{WaitRecord, Waits};
+use crate::{IdFault, Table, status_of_id, status_of_name, status_of_reserve};
+use osal_base::{Ack, Name, ObjType, OsalId, OutOfMemory, Status};
+use std::alloc::Global;
+use std::marker::Model;
+
+/// The holds of an object, its open waits counted, at which a caller's hold is refused.
 const CALLER_HOLD_LIMIT: u32 = 1_000_000;
 
-/// What a call answers to bytes that are no name.
-pub fn status_of_name(fault: NameFault) -> Status
-    ensures { result ≡ name_status fault }
-{
-    match fault {
-        NameFault::Empty => Status::ErrInvalidArgument,
-        NameFault::TooLong => Status::ErrNameTooLong,
-        NameFault::HasZero => Status::ErrInvalidArgument,
+/// The objects of one type, and the open waits of their part: each part is one such pair and its rows.
+///
+/// The holds of an object are those of callers and the open waits that stand on it.
+#[derive(Drop)]
+pub struct Objects<T, W> {
+    table: Table<T>,
+    waits: Waits<W>,
+}
+
+impl<T, W> Model for Objects<T, W> {
+    ghost use Rattle.osal_idtable.specs.Objects.{ObjectsState};
+    ghost use Rattle.osal_idtable.specs.Code.{objects_code};
+
+    ghost Value = { ObjectsState T W };
+
+    ghost coded = { objects_code T.code W.code };
+
+    ghost view = { λ a. record { table = a.table; waits = a.waits } };
+
+    ghost invariant = { λ a. Unit {0} };
+}
+
+impl<T, W: Drop> Objects<T, W> {
+    /// No objects and no waits, with the memory for `capacity` objects and a wait of each of `tasks` tasks.
+    pub fn new(
+        alloc: Global,
+        kind: ObjType,
+        capacity: u32,
+        tasks: u32,
+    ) -> Result<Objects<T, W>, OutOfMemory>
+        requires objects { IsCapacity capacity }
+        requires tasks { IsCapacity tasks }
+        ensures { IfOk result (λ made. made ≡ no_objects (type_number kind) capacity tasks) }
+    {
+        let waits = Waits::new(alloc, tasks)?;
+        let table = Table::new(alloc, kind, capacity)?;
+        Ok(Objects { table, waits })
     }
 }
 
-/// What a create answers where no identifier can be had.
-pub fn status_of_reserve(fault: ReserveFault) -> Status
-    ensures { result ≡ reserve_status fault }
-{
-    match fault {
-        ReserveFault::NameTaken => Status::ErrNameTaken,
-        ReserveFault::NoFreeIds => Status::ErrNoFreeIds,
+impl<T, W> Objects<T, W> {
+    /// The object that an identifier names.
+    pub fn lookup(&self, id: OsalId) -> Result<&T, IdFault>
+        ensures { MatchResult result
+            (λ object. lookup self.now.table id ≡ Ok object.now)
+            (λ fault. lookup self.now.table id ≡ Err fault) }
+    {
+        self.table.lookup(id)
     }
-}
 
-/// What a call on an identifier answers where the table refuses it.
-pub fn status_of_id(fault: IdFault) -> Status
-    ensures { result ≡ id_status fault }
-{
-    match fault {
-        IdFault::InvalidId => Status::ErrInvalidId,
-        IdFault::ObjectInUse => Status::ErrObjectInUse,
-        IdFault::TooMany => Status::Error,
-        IdFault::NotHeld => Status::ErrIncorrectObjState,
+    /// Whether an identifier is active.
+    pub fn is_active(&self, id: OsalId) -> bool
+        ensures { result ≡ is_some (active_at self.now.table id) }
+    {
+        self.table.lookup(id).is_ok()
     }
-}
 
-/// Makes the object under a fresh identifier, or answers why it can't be had. It takes no memory.
-pub fn create<T: Drop>(table: &mut Table<T>, name: Name, object: T) -> Ack
-    ensures { (replied result [], table.new) ≡ create_step table.old name object }
-{
-    match table.reserve(Some(name)) {
-        Ok(token) => {
-            let id = table.finalize(token, Some(object));
-            Ack::gives(u64::from(id.raw()))
+    /// How often an object is held, by callers and by open waits.
+    pub fn holds(&self, id: OsalId) -> Result<u32, IdFault>
+        ensures { result ≡ holds_of (active_at self.now.table id) }
+    {
+        self.table.holds(id)
+    }
+
+    /// Whether somebody holds an object, a caller or an open wait.
+    pub fn is_held(&self, id: OsalId) -> bool
+        ensures { result ≡ is_held (active_at self.now.table id) }
+    {
+        match self.table.holds(id) {
+            Ok(holds) => 0 < holds,
+            Err(_) => false,
         }
-        Err(fault) => Ack::refused(status_of_reserve(fault)),
     }
-}
 
-/// Removes an object that nobody holds. It takes no memory.
-pub fn delete<T: Drop>(table: &mut Table<T>, id: OsalId) -> Ack
-    ensures { (replied result [], table.new) ≡ delete_step table.old id }
-{
-    match table.remove(id) {
-        Ok(_) => Ack::success(),
-        Err(fault) => Ack::refused(status_of_id(fault)),
+    /// The name of an active identifier.
+    pub fn name_of(&self, id: OsalId) -> Result<Option<Name>, IdFault>
+        ensures { result ≡ name_under (active_at self.now.table id) }
+    {
+        self.table.name_of(id)
     }
-}
 
-/// The identifier of the object with that name, or why there is none. It looks at each slot at most.
-pub fn find<T>(table: &Table<T>, name: &[u8]) -> Ack
-    ensures { replied result [] ≡ find_reply table.now name.now }
-{
-    let name = match Name::new(name) {
-        Ok(name) => name,
-        Err(fault) => return Ack::refused(status_of_name(fault)),
-    };
-    match table.find(&name) {
-        Some(id) => Ack::gives(u64::from(id.raw())),
-        None => Ack::refused(Status::ErrNameNotFound),
+    /// Gives the identifier of the object with that name, or why there is none. It looks at each slot at most.
+    pub fn find(&self, name: &[u8]) -> Ack
+        ensures { replied result [] ≡ find_reply self.now name.now }
+    {
+        let name = match Name::new(name) {
+            Ok(name) => name,
+            Err(fault) => return Ack::refused(status_of_name(fault)),
+        };
+        match self.table.find(&name) {
+            Some(id) => Ack::gives(u64::from(id.raw())),
+            None => Ack::refused(Status::ErrNameNotFound),
+        }
     }
-}
 
-/// Holds an object, so that it is not removed.
-pub fn hold<T>(table: &mut Table<T>, id: OsalId) -> Ack
-    ensures { (replied result [], table.new) ≡ hold_call_step table.old id }
-{
-    match table.holds(id) {
-        Err(_) => return Ack::refused(Status::ErrInvalidId),
-        Ok(holds) => {
-            if holds >= CALLER_HOLD_LIMIT {
-                return Ack::refused(Status::Error);
+    /// Holds an object, so that it is not removed.
+    pub fn hold(&mut self, id: OsalId) -> Ack
+        ensures { (replied result [], self.new) ≡ hold_call_step self.old id }
+    {
+        match self.table.holds(id) {
+            Err(_) => return Ack::refused(Status::ErrInvalidId),
+            Ok(holds) => {
+                if holds >= CALLER_HOLD_LIMIT {
+                    return Ack::refused(Status::Error);
+                }
             }
         }
+        let held = self.table.hold(id);
+        held.unwrap();
+        Ack::success()
     }
-    let held = table.hold(id);
-    held.unwrap();
-    Ack::success()
+
+    /// Gives a hold back, where there are more of them than the waits that stand on the object.
+    pub fn release(&mut self, id: OsalId) -> Ack
+        ensures { (replied result [], self.new) ≡ release_call_step self.old id }
+    {
+        match self.table.holds(id) {
+            Err(_) => return Ack::refused(Status::ErrInvalidId),
+            Ok(holds) => {
+                if holds <= self.waits.count_on(id) {
+                    return Ack::refused(Status::ErrIncorrectObjState);
+                }
+            }
+        }
+        let released = self.table.release(id);
+        released.unwrap();
+        Ack::success()
+    }
 }
 
-/// Gives a hold back.
-pub fn release<T>(table: &mut Table<T>, id: OsalId) -> Ack
-    ensures { (replied result [], table.new) ≡ release_call_step table.old id }
-{
-    match table.release(id) {
-        Ok(()) => Ack::success(),
-        Err(fault) => Ack::refused(status_of_id(fault)),
+impl<T: Drop, W> Objects<T, W> {
+    /// Makes the object under a fresh identifier, or answers why it can't be had. It takes no memory.
+    pub fn create(&mut self, name: Name, object: T) -> Ack
+        ensures { (replied result [], self.new) ≡ create_step self.old name object }
+    {
+        match self.table.reserve(Some(name)) {
+            Ok(token) => {
+                let id = self.table.finalize(token, Some(object));
+                Ack::gives(u64::from(id.raw()))
+            }
+            Err(fault) => Ack::refused(status_of_reserve(fault)),
+        }
+    }
+
+    /// Puts another object in the place of the one that an identifier names.
+    pub fn put(&mut self, id: OsalId, object: T)
+        requires { IsTrue (is_some (active_at self.old.table id)) }
+        ensures { self.new ≡ with_value self.old id object }
+    {
+        self.table.put(id, object);
+    }
+
+    /// Removes an object that nobody holds. It takes no memory.
+    pub fn delete(&mut self, id: OsalId) -> Ack
+        ensures { (replied result [], self.new) ≡ delete_step self.old id }
+    {
+        match self.table.remove(id) {
+            Ok(_) => Ack::success(),
+            Err(fault) => Ack::refused(status_of_id(fault)),
+        }
     }
 }

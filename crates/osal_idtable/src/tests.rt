@@ -1,4 +1,6 @@
 //! What a table answers, call by call, on small tables.
+mod objects;
+
 use crate::{IdFault, ReserveFault, Table};
 use osal_base::{Name, NameFault, ObjType, OsalId};
 use std::process::Abort;

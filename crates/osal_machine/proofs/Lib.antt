@@ -1,1 +1,10 @@
 pub mod Histories
+pub mod Own
+pub mod Alone
+pub mod Stale
+pub mod Moves
+pub mod TaskMoves
+pub mod SemMoves
+pub mod Replays
+pub mod Unheld
+pub mod Marked

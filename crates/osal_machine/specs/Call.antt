@@ -1,42 +1,56 @@
 -- The calls of the machine, as contracts see them.
-use Rattle.std.specs.Prelude.{◌==◌, ℕ, List, Bool, if◌then◌else◌}
+use Rattle.std.specs.Prelude.{◌==◌, ℕ, List, nat_lt, if◌then◌else◌}
 use Rattle.osal_base.specs.Identifier.{type_of}
 use Rattle.osal_base.specs.Text.{Text}
-use Rattle.osal_base.specs.Time.{IsCheck}
 use Rattle.osal_machine.specs.declared.call.Call.{Call}
 use Rattle.osal_machine.specs.declared.call.Call.TheVariants as call
 
--- whether an identifier is of the type of binary semaphores
-abbrev pub is_bin_sem_id : ℕ → Bool
-is_bin_sem_id id = type_of id == 4
+-- the number of the part that has the objects of a type, by the type's number; 0 where no part has any
+abbrev pub part_of_type : ℕ → ℕ
+part_of_type kind =
+    if kind == 2 then 1
+    else (if kind == 3 then 2
+    else (if kind == 4 then 3
+    else (if kind == 5 then 4
+    else (if kind == 13 then 5
+    else (if kind == 8 then 6
+    else (if kind == 9 then 6
+    else (if kind == 6 then 7
+    else (if kind == 7 then 7
+    else (if kind == 11 then 7
+    else (if kind == 12 then 8
+    else 0))))))))))
 
--- the number of the part whose call it is: 0 for tasks, 3 for binary semaphores
+-- the number of the part that has an identifier's object
+abbrev pub part_of_id : ℕ → ℕ
+part_of_id id = part_of_type (type_of id)
+
+-- the number of the part in which a wait is: a number above 8 is no part's, and goes to part 0
+abbrev pub part_of_wait : ℕ → ℕ
+part_of_wait part = if nat_lt 8 part then 0 else part
+
+-- the number of the part whose call it is: 0 for tasks, 3 for binary semaphores, 6 for time
 abbrev pub part_of : Call → ℕ
 part_of (call.TaskCreate name body stack priority) = 0
 part_of call.TaskExit = 0
+part_of (call.TaskDelete id) = 0
+part_of (call.TaskSetPriority id priority) = 0
+part_of (call.TaskFind name) = 0
+part_of (call.TaskInfo id) = 0
+part_of (call.TaskDelay ms) = 0
 part_of call.Checkpoint = 0
 part_of (call.BinSemCreate name value) = 3
-part_of (call.BinSemTake id wait) = 3
 part_of (call.BinSemGive id) = 3
+part_of (call.BinSemFlush id) = 3
+part_of (call.BinSemTake id wait) = 3
 part_of (call.BinSemDelete id) = 3
 part_of (call.BinSemFind name) = 3
 part_of (call.BinSemInfo id) = 3
-part_of (call.Hold id) = if is_bin_sem_id id then 3 else 0
-part_of (call.Release id) = if is_bin_sem_id id then 3 else 0
-
--- the call is one that the machine makes today: a take waits for nobody
-abbrev pub IsBuilt : Call → Type 0
-IsBuilt (call.BinSemTake id wait) = IsCheck wait
-IsBuilt (call.BinSemCreate name value) = Unit {0}
-IsBuilt (call.TaskCreate name body stack priority) = Unit {0}
-IsBuilt call.TaskExit = Unit {0}
-IsBuilt (call.BinSemGive id) = Unit {0}
-IsBuilt (call.BinSemDelete id) = Unit {0}
-IsBuilt (call.BinSemFind name) = Unit {0}
-IsBuilt (call.BinSemInfo id) = Unit {0}
-IsBuilt (call.Hold id) = Unit {0}
-IsBuilt (call.Release id) = Unit {0}
-IsBuilt call.Checkpoint = Unit {0}
+part_of (call.Advance to) = 6
+part_of (call.Hold id) = part_of_id id
+part_of (call.Release id) = part_of_id id
+part_of (call.WaitEnd part) = part_of_wait part
+part_of (call.WaitAbandon part) = part_of_wait part
 
 -- bytes without the room that is left beside them, which says nothing of a call
 abbrev pub trimmed : Text → Text
@@ -50,12 +64,21 @@ text_of bytes = record { bytes = bytes; spare = 0 }
 abbrev pub said : Call → Call
 said (call.TaskCreate name body stack priority) = call.TaskCreate (trimmed name) body stack priority
 said call.TaskExit = call.TaskExit
+said (call.TaskDelete id) = call.TaskDelete id
+said (call.TaskSetPriority id priority) = call.TaskSetPriority id priority
+said (call.TaskFind name) = call.TaskFind (trimmed name)
+said (call.TaskInfo id) = call.TaskInfo id
+said (call.TaskDelay ms) = call.TaskDelay ms
 said call.Checkpoint = call.Checkpoint
 said (call.BinSemCreate name value) = call.BinSemCreate (trimmed name) value
-said (call.BinSemTake id wait) = call.BinSemTake id wait
 said (call.BinSemGive id) = call.BinSemGive id
+said (call.BinSemFlush id) = call.BinSemFlush id
+said (call.BinSemTake id wait) = call.BinSemTake id wait
 said (call.BinSemDelete id) = call.BinSemDelete id
 said (call.BinSemFind name) = call.BinSemFind (trimmed name)
 said (call.BinSemInfo id) = call.BinSemInfo id
+said (call.Advance to) = call.Advance to
 said (call.Hold id) = call.Hold id
 said (call.Release id) = call.Release id
+said (call.WaitEnd part) = call.WaitEnd part
+said (call.WaitAbandon part) = call.WaitAbandon part

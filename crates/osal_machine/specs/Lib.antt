@@ -1,7 +1,13 @@
 pub use Rattle.osal_idtable.specs.Table
 pub use Rattle.osal_task.specs.Tasks
+pub use Rattle.osal_task.specs.Delays
 pub use Rattle.osal_sem.specs.Binary
 pub mod Call
+pub mod Time
+pub mod Parts
 pub mod Step
+pub mod Views
+pub mod AnyPart
 pub mod Journal
 pub mod History
+pub mod Laws

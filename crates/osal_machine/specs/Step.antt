@@ -1,10 +1,13 @@
 -- The machine of one thread: the product of its parts, and what a call does to it.
-use Rattle.std.specs.Prelude.{ℕ, if◌then◌else◌}
+use Rattle.std.specs.Prelude.{◌==◌, ℕ, Bool, not, if◌then◌else◌}
 use Rattle.osal_base.specs.declared.limits.Limits.{Limits}
-use Rattle.osal_base.specs.Reply.{Replied}
-use Rattle.osal_task.specs.Tasks.{hold_step as hold_task, release_step as release_task, TaskState, no_tasks, task_create_step, task_exit_step, checkpoint_step}
-use Rattle.osal_sem.specs.Binary.{hold_step as hold_bin_sem, release_step as release_bin_sem, BinSemState, no_bin_sems, bin_sem_create_step, bin_sem_take_step, bin_sem_give_step, bin_sem_delete_step, bin_sem_find_step, bin_sem_info_step}
-use Rattle.osal_machine.specs.Call.{is_bin_sem_id}
+use Rattle.osal_base.specs.declared.time.Moment.{Moment}
+use Rattle.osal_base.specs.Reply.{Replied, is_waits}
+use Rattle.osal_task.specs.Tasks.{TaskState, no_tasks}
+use Rattle.osal_sem.specs.Binary.{BinSemState, no_bin_sems}
+use Rattle.osal_machine.specs.Call.{part_of, part_of_id}
+use Rattle.osal_machine.specs.Time.{TimeState, time_start}
+use Rattle.osal_machine.specs.Parts.{PartState, Tasks, BinSems, Time, Absent, part_step, is_active_in}
 use Rattle.osal_machine.specs.declared.call.Call.{Call}
 use Rattle.osal_machine.specs.declared.call.Call.TheVariants as call
 
@@ -12,37 +15,39 @@ use Rattle.osal_machine.specs.declared.call.Call.TheVariants as call
 pub record MachineState : Type 0 where
   pub tasks : TaskState
   pub bin_sems : BinSemState
+  pub time : TimeState
 
--- no objects
+-- no objects, at the start of time
 abbrev pub opening : Limits → MachineState
-opening limits = record { tasks = no_tasks limits; bin_sems = no_bin_sems limits }
+opening limits = record { tasks = no_tasks limits; bin_sems = no_bin_sems limits; time = time_start }
 
--- a step of the task part changes that part alone
-abbrev pub in_tasks : MachineState → Replied × TaskState → Replied × MachineState
-in_tasks state stepped = (stepped.0, record state { tasks = stepped.1 })
+-- the part of that number
+abbrev pub part_in : ℕ → MachineState → PartState
+part_in part state =
+    if part == 0 then Tasks state.tasks
+    else (if part == 3 then BinSems state.bin_sems
+    else (if part == 6 then Time state.time
+    else Absent))
 
--- a step of the binary semaphores changes that part alone
-abbrev pub in_bin_sems : MachineState → Replied × BinSemState → Replied × MachineState
-in_bin_sems state stepped = (stepped.0, record state { bin_sems = stepped.1 })
+-- the machine with another state of a part
+abbrev pub with_part : MachineState → PartState → MachineState
+with_part state (Tasks tasks) = record state { tasks = tasks }
+with_part state (BinSems sems) = record state { bin_sems = sems }
+with_part state (Time time) = record state { time = time }
+with_part state Absent = state
 
--- what a task's call answers, and the state that it leaves
-abbrev pub step : MachineState → ℕ → Call → Replied × MachineState
-step state task (call.TaskCreate name body stack priority) =
-    in_tasks state (task_create_step state.tasks name.bytes body stack priority)
-step state task call.TaskExit = in_tasks state (task_exit_step state.tasks task)
-step state task call.Checkpoint = in_tasks state (checkpoint_step state.tasks task)
-step state task (call.BinSemCreate name value) =
-    in_bin_sems state (bin_sem_create_step state.bin_sems name.bytes value)
-step state task (call.BinSemTake id wait) = in_bin_sems state (bin_sem_take_step state.bin_sems id)
-step state task (call.BinSemGive id) = in_bin_sems state (bin_sem_give_step state.bin_sems id)
-step state task (call.BinSemDelete id) = in_bin_sems state (bin_sem_delete_step state.bin_sems id)
-step state task (call.BinSemFind name) = in_bin_sems state (bin_sem_find_step state.bin_sems name.bytes)
-step state task (call.BinSemInfo id) = in_bin_sems state (bin_sem_info_step state.bin_sems id)
-step state task (call.Hold id) =
-    if is_bin_sem_id id
-    then in_bin_sems state (hold_bin_sem state.bin_sems id)
-    else in_tasks state (hold_task state.tasks id)
-step state task (call.Release id) =
-    if is_bin_sem_id id
-    then in_bin_sems state (release_bin_sem state.bin_sems id)
-    else in_tasks state (release_task state.tasks id)
+-- a part's call changes that part alone
+abbrev pub in_machine : MachineState → Replied × PartState → Replied × MachineState
+in_machine state stepped = (stepped.0, with_part state stepped.1)
+
+-- what a task's call answers, and the state that it leaves: the part whose call it is makes it
+abbrev pub step : MachineState → ℕ → Moment → Call → Replied × MachineState
+step state task now made = in_machine state (part_step (part_in (part_of made) state) task now made)
+
+-- whether an identifier is active, in the part of its type
+abbrev pub is_active : MachineState → ℕ → Bool
+is_active state id = is_active_in (part_in (part_of_id id) state) id
+
+-- whether the end of a task's wait in a part would not wait on
+abbrev pub is_ready : MachineState → ℕ → Moment → ℕ → Bool
+is_ready state task now part = not (is_waits (step state task now (call.WaitEnd part)).0.answer)

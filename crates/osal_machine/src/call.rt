@@ -1,6 +1,6 @@
 //! The calls of the machine, and the entries that they make.
 ghost use Rattle.std.specs.Prelude.{◌≡◌};
-ghost use Rattle.osal_machine.specs.Call.{part_of as part_number, is_bin_sem_id};
+ghost use Rattle.osal_machine.specs.Call as of_call;
 
 use osal_base::{Bytes, Moment, OsalId, Reply, Timeout};
 
@@ -16,6 +16,27 @@ pub enum Call {
     },
     /// `OS_TaskExit`.
     TaskExit,
+    /// `OS_TaskDelete`.
+    TaskDelete {
+        id: OsalId,
+    },
+    /// `OS_TaskSetPriority`.
+    TaskSetPriority {
+        id: OsalId,
+        priority: u32,
+    },
+    /// `OS_TaskGetIdByName`.
+    TaskFind {
+        name: Bytes,
+    },
+    /// `OS_TaskGetInfo`.
+    TaskInfo {
+        id: OsalId,
+    },
+    /// `OS_TaskDelay`.
+    TaskDelay {
+        ms: u32,
+    },
     /// The place at which a task learns whether it goes on.
     Checkpoint,
     /// `OS_BinSemCreate`.
@@ -23,14 +44,18 @@ pub enum Call {
         name: Bytes,
         value: u32,
     },
+    /// `OS_BinSemGive`.
+    BinSemGive {
+        id: OsalId,
+    },
+    /// `OS_BinSemFlush`.
+    BinSemFlush {
+        id: OsalId,
+    },
     /// `OS_BinSemTake` and `OS_BinSemTimedWait`.
     BinSemTake {
         id: OsalId,
         wait: Timeout,
-    },
-    /// `OS_BinSemGive`.
-    BinSemGive {
-        id: OsalId,
     },
     /// `OS_BinSemDelete`.
     BinSemDelete {
@@ -44,6 +69,10 @@ pub enum Call {
     BinSemInfo {
         id: OsalId,
     },
+    /// Virtual time goes on to a later moment, in milliseconds.
+    Advance {
+        to: u64,
+    },
     /// Holds an object, so that it is not removed.
     Hold {
         id: OsalId,
@@ -51,6 +80,14 @@ pub enum Call {
     /// Gives a hold back.
     Release {
         id: OsalId,
+    },
+    /// Ends the open wait of the task in the part of that number.
+    WaitEnd {
+        part: u32,
+    },
+    /// Gives the open wait of the task in the part of that number up.
+    WaitAbandon {
+        part: u32,
     },
 }
 
@@ -65,27 +102,55 @@ pub struct Entry {
     pub reply: Reply,
 }
 
-/// Whether an identifier is of the type of binary semaphores.
-pub(crate) fn is_bin_sem(id: OsalId) -> bool
-    ensures { result ≡ is_bin_sem_id id }
+/// The number of the part that has the objects of a type; 0 where no part has any.
+fn part_of_type(kind: u32) -> u32
+    ensures { result ≡ of_call.part_of_type kind }
 {
-    id.raw() / 65536 == 4
+    match kind {
+        2 => 1,
+        3 => 2,
+        4 => 3,
+        5 => 4,
+        13 => 5,
+        8 | 9 => 6,
+        6 | 7 | 11 => 7,
+        12 => 8,
+        _ => 0,
+    }
 }
 
-/// The number of the part whose call it is: 0 for tasks, 3 for binary semaphores.
+/// The number of the part that has an identifier's object.
+pub(crate) fn part_of_id(id: OsalId) -> u32
+    ensures { result ≡ of_call.part_of_id id }
+{
+    part_of_type(id.raw() / 65536)
+}
+
+/// The number of the part whose call it is: 0 for tasks, 3 for binary semaphores, 6 for time.
 ///
-/// A hold and a release go to the part of the identifier's type, or to part 0 where it has no table.
+/// A hold and a release go to the part of the identifier's type, the end of a wait to the part of its number.
+/// What has no part goes to part 0.
 pub fn part_of(call: &Call) -> u32
-    ensures { result ≡ part_number call.now }
+    ensures { result ≡ of_call.part_of call.now }
 {
     match call {
-        Call::TaskCreate { .. } | Call::TaskExit | Call::Checkpoint => 0,
+        Call::TaskCreate { .. }
+        | Call::TaskExit
+        | Call::TaskDelete { .. }
+        | Call::TaskSetPriority { .. }
+        | Call::TaskFind { .. }
+        | Call::TaskInfo { .. }
+        | Call::TaskDelay { .. }
+        | Call::Checkpoint => 0,
         Call::BinSemCreate { .. }
-        | Call::BinSemTake { .. }
         | Call::BinSemGive { .. }
+        | Call::BinSemFlush { .. }
+        | Call::BinSemTake { .. }
         | Call::BinSemDelete { .. }
         | Call::BinSemFind { .. }
         | Call::BinSemInfo { .. } => 3,
-        Call::Hold { id } | Call::Release { id } => { if is_bin_sem(*id) { 3 } else { 0 } }
+        Call::Advance { .. } => 6,
+        Call::Hold { id } | Call::Release { id } => part_of_id(*id),
+        Call::WaitEnd { part } | Call::WaitAbandon { part } => { if 8 < *part { 0 } else { *part } }
     }
 }

@@ -2,12 +2,13 @@
 ghost use Rattle.std.specs.Prelude.{◌≡◌, IsOk, IfOk};
 ghost use Rattle.osal_base.specs.Limits.{Fits};
 ghost use Rattle.osal_base.specs.Reply.{replied};
-ghost use Rattle.osal_machine.specs.Call.{IsBuilt};
-ghost use Rattle.osal_machine.specs.Step.{opening, step};
-ghost use Rattle.osal_machine.specs.declared.call.Call.TheVariants.{Hold, Release};
+ghost use Rattle.osal_task.specs.Tasks.{goes};
+ghost use Rattle.osal_machine.specs.Step.{opening, step, is_ready, is_active};
+ghost use Rattle.osal_machine.specs.Views.{All};
 
-use crate::Call;
-use crate::call::is_bin_sem;
+use crate::call::part_of_id;
+use crate::parts::absent;
+use crate::{Call, Part, TimePart, part_of};
 use osal_base::{Ack, Limits, Moment, OsalId, OutOfMemory, Room};
 use osal_sem::BinSemPart;
 use osal_task::TaskPart;
@@ -19,18 +20,19 @@ use std::marker::Model;
 pub struct Whole {
     tasks: TaskPart,
     bin_sems: BinSemPart,
+    time: TimePart,
 }
 
 impl Model for Whole {
     ghost use Rattle.osal_machine.specs.Step.{MachineState};
     ghost use Rattle.std.specs.Coded.{codes};
-    ghost use Rattle.osal_idtable.specs.Code.{table_code};
+    ghost use Rattle.osal_idtable.specs.Code.{objects_code};
 
     ghost Value = { MachineState };
 
-    ghost coded = { Prim.hlevel (codes, table_code) };
+    ghost coded = { Prim.hlevel (codes, objects_code) };
 
-    ghost view = { λ a. record { tasks = a.tasks; bin_sems = a.bin_sems } };
+    ghost view = { λ a. record { tasks = a.tasks; bin_sems = a.bin_sems; time = a.time } };
 
     ghost invariant = { λ a. Unit {0} };
 }
@@ -44,6 +46,7 @@ impl Whole {
         Ok(Whole {
             tasks: TaskPart::open(alloc, limits)?,
             bin_sems: BinSemPart::open(alloc, limits)?,
+            time: TimePart::new(),
         })
     }
 
@@ -56,72 +59,80 @@ impl Whole {
         call: &Call,
         room: &mut Room,
     ) -> Result<Ack, OutOfMemory>
-        requires { IsBuilt call.now }
-        ensures step { IfOk result (λ ack. (replied ack room.new, self.new) ≡ step self.old task call.now) }
+        ensures step { IfOk result (λ ack. (replied ack room.new, self.new) ≡ step self.old task now call.now) }
         ensures memory { IsOk result }
     {
-        match call {
-            Call::TaskCreate {
-                name,
-                body,
-                stack,
-                priority,
-            } => self
-                .tasks
-                .task_create(alloc, task, now, name, *body, *stack, *priority, room),
-            Call::TaskExit => self.tasks.task_exit(alloc, task, now, room),
-            Call::Checkpoint => self.tasks.checkpoint(alloc, task, now, room),
-            Call::BinSemCreate { name, value } => self
-                .bin_sems
-                .bin_sem_create(alloc, task, now, name, *value, room),
-            Call::BinSemTake { id, wait } => {
-                self.bin_sems
-                    .bin_sem_take(alloc, task, now, *id, *wait, room)
+        match part_of(call) {
+            0 => Part::apply(&mut self.tasks, alloc, task, now, call, room),
+            3 => Part::apply(&mut self.bin_sems, alloc, task, now, call, room),
+            6 => Part::apply(&mut self.time, alloc, task, now, call, room),
+            _ => {
+                room.clear();
+                Ok(absent(call))
             }
-            Call::BinSemGive { id } => self.bin_sems.bin_sem_give(alloc, task, now, *id, room),
-            Call::BinSemDelete { id } => self.bin_sems.bin_sem_delete(alloc, task, now, *id, room),
-            Call::BinSemFind { name } => self.bin_sems.bin_sem_find(alloc, task, now, name, room),
-            Call::BinSemInfo { id } => self.bin_sems.bin_sem_info(alloc, task, now, *id, room),
-            Call::Hold { id } => self.hold(alloc, task, now, *id, room),
-            Call::Release { id } => self.release(alloc, task, now, *id, room),
         }
     }
 
-    /// A hold goes to the part of the identifier's type.
-    fn hold(
+    /// Whether the end of a task's wait in the part of that number would not answer `Waits`.
+    pub fn ready(&self, task: OsalId, now: Moment, part: u32) -> bool
+        ensures { result ≡ is_ready self.now task now part }
+    {
+        match part {
+            3 => self.bin_sems.ready(task, now, part),
+            1 | 2 | 4 | 5 | 6 | 7 | 8 => true,
+            _ => self.tasks.ready(task, now, part),
+        }
+    }
+
+    /// Whether an identifier is active, in the part of its type.
+    pub fn active(&self, id: OsalId) -> bool
+        ensures { result ≡ is_active self.now id }
+    {
+        match part_of_id(id) {
+            0 => self.tasks.active(id),
+            3 => self.bin_sems.active(id),
+            _ => false,
+        }
+    }
+
+    /// Whether a task is active and not marked for deletion.
+    pub fn goes(&self, task: OsalId) -> bool
+        ensures { result ≡ goes self.now.tasks task }
+    {
+        self.tasks.goes(task)
+    }
+
+    /// The moment that it is.
+    pub fn moment(&self) -> Moment
+        ensures { result ≡ self.now.time.moment }
+    {
+        self.time.moment()
+    }
+}
+
+impl Part for Whole {
+    ghost view = { λ whole. All whole };
+
+    fn apply(
         &mut self,
         alloc: Global,
         task: OsalId,
         now: Moment,
-        id: OsalId,
+        call: &Call,
         room: &mut Room,
-    ) -> Result<Ack, OutOfMemory>
-        ensures step { IfOk result (λ ack. (replied ack room.new, self.new) ≡ step self.old task (Hold id)) }
-        ensures memory { IsOk result }
-    {
-        if is_bin_sem(id) {
-            self.bin_sems.hold(alloc, task, now, id, room)
-        } else {
-            self.tasks.hold(alloc, task, now, id, room)
-        }
+    ) -> Result<Ack, OutOfMemory> {
+        self.apply(alloc, task, now, call, room)
     }
 
-    /// A release goes to the part of the identifier's type.
-    fn release(
-        &mut self,
-        alloc: Global,
-        task: OsalId,
-        now: Moment,
-        id: OsalId,
-        room: &mut Room,
-    ) -> Result<Ack, OutOfMemory>
-        ensures step { IfOk result (λ ack. (replied ack room.new, self.new) ≡ step self.old task (Release id)) }
-        ensures memory { IsOk result }
-    {
-        if is_bin_sem(id) {
-            self.bin_sems.release(alloc, task, now, id, room)
-        } else {
-            self.tasks.release(alloc, task, now, id, room)
-        }
+    fn ready(&self, task: OsalId, now: Moment, part: u32) -> bool {
+        self.ready(task, now, part)
+    }
+
+    fn active(&self, id: OsalId) -> bool {
+        self.active(id)
+    }
+
+    fn goes(&self, task: OsalId) -> bool {
+        self.goes(task)
     }
 }

@@ -14,16 +14,7 @@ use Rattle.osal_report.specs.Cases.{Case, cases_from, cases_text, passed, failed
 -- whether a call is the exit of a task
 abbrev pub is_exit : Call → Bool
 is_exit call.TaskExit = true
-is_exit (call.TaskCreate name body stack priority) = false
-is_exit call.Checkpoint = false
-is_exit (call.BinSemCreate name initial) = false
-is_exit (call.BinSemTake id wait) = false
-is_exit (call.BinSemGive id) = false
-is_exit (call.BinSemDelete id) = false
-is_exit (call.BinSemFind name) = false
-is_exit (call.BinSemInfo id) = false
-is_exit (call.Hold id) = false
-is_exit (call.Release id) = false
+is_exit other = false
 
 -- whether an entry is there and is the exit of a task
 abbrev pub is_exit_entry : Option Entry → Bool
@@ -49,16 +40,7 @@ how_text body entries =
 -- the name under which a task is created
 abbrev pub created_name : Call → List ℕ
 created_name (call.TaskCreate name body stack priority) = name.bytes
-created_name call.TaskExit = []
-created_name call.Checkpoint = []
-created_name (call.BinSemCreate name initial) = []
-created_name (call.BinSemTake id wait) = []
-created_name (call.BinSemGive id) = []
-created_name (call.BinSemDelete id) = []
-created_name (call.BinSemFind name) = []
-created_name (call.BinSemInfo id) = []
-created_name (call.Hold id) = []
-created_name (call.Release id) = []
+created_name other = []
 
 -- the counts at a line's end
 unfoldable pub counts_text : ℕ → ℕ → List ℕ

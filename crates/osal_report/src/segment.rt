@@ -16,16 +16,7 @@ fn is_exit(call: &Call) -> bool
 {
     match call {
         Call::TaskExit => true,
-        Call::TaskCreate { .. }
-        | Call::Checkpoint
-        | Call::BinSemCreate { .. }
-        | Call::BinSemTake { .. }
-        | Call::BinSemGive { .. }
-        | Call::BinSemDelete { .. }
-        | Call::BinSemFind { .. }
-        | Call::BinSemInfo { .. }
-        | Call::Hold { .. }
-        | Call::Release { .. } => false,
+        _ => false,
     }
 }
 
@@ -34,16 +25,7 @@ fn created_name(call: &Call) -> &[u8]
 {
     match call {
         Call::TaskCreate { name, .. } => name.as_slice(),
-        Call::TaskExit
-        | Call::Checkpoint
-        | Call::BinSemCreate { .. }
-        | Call::BinSemTake { .. }
-        | Call::BinSemGive { .. }
-        | Call::BinSemDelete { .. }
-        | Call::BinSemFind { .. }
-        | Call::BinSemInfo { .. }
-        | Call::Hold { .. }
-        | Call::Release { .. } => &[],
+        _ => &[],
     }
 }
 

@@ -11,7 +11,7 @@ use Rattle.osal_script.specs.declared.grammar.CallWord.TheVariants as word
 use Rattle.osal_script.specs.Values.{number_below, positive_below, code_of, string_of, register_name}
 
 -- the registers that a body has named so far, in the order of their first mention; whether one was too many,
--- and whether a wait was met that the machine does not make yet
+-- and whether a wait was met that scripts do not make yet
 pub record Registers : Type 0 where
   pub names : List (List ℕ)
   pub over : Bool
@@ -47,7 +47,7 @@ o >>= f = option_and_then f o
 abbrev pub register_at : Registers → List ℕ → Option (ℕ × Registers)
 register_at registers word = option_map (register_number registers) (register_name word)
 
--- a wait that needs no time, or one that the machine does not make yet
+-- a wait that needs no time, or one that scripts do not make yet
 abbrev pub wait_at : Registers → List ℕ → Option Registers
 wait_at registers word =
     if bytes_eq word (codes "check") then Some registers

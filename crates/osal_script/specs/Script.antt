@@ -8,7 +8,7 @@ use Rattle.osal_base.specs.Reply.{Replied, reply_of}
 use Rattle.osal_machine.specs.declared.call.Call.{Call}
 use Rattle.osal_machine.specs.declared.call.Call.TheVariants as call
 use Rattle.osal_machine.specs.declared.call.Entry.{Entry}
-use Rattle.osal_machine.specs.Call.{text_of, said, IsBuilt}
+use Rattle.osal_machine.specs.Call.{text_of, said}
 use Rattle.osal_script.specs.declared.app.ScriptCall.{ScriptCall}
 use Rattle.osal_script.specs.declared.app.ScriptCall.TheVariants as script
 use Rattle.osal_script.specs.declared.app.Line.{Line}
@@ -167,7 +167,7 @@ line_number (line ∷ lines) = line.number
 -- what a cursor gives is the script's next call, and its line, or says that there is none
 abbrev pub IsStep : ScriptState → Step → Type 0
 IsStep state (step.Make line call) =
-    (next_call state ≡ Some (said call)) × (line ≡ line_number state.lines) × IsBuilt call
+    (next_call state ≡ Some (said call)) × (line ≡ line_number state.lines)
 IsStep state step.Finished = state.phase ≡ phase.Ended
 
 -- what a place in a body's items becomes by a reply

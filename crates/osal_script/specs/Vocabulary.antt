@@ -6,7 +6,7 @@ use Rattle.osal_script.specs.declared.grammar.CallWord.TheVariants as word
 use Rattle.osal_script.specs.declared.grammar.FirstWord.{FirstWord}
 use Rattle.osal_script.specs.declared.grammar.FirstWord.TheVariants as first
 
--- the names of calls that the machine does not make yet, and the words whose lines are not read yet
+-- the names of calls that scripts do not make yet, and the words whose lines are not read yet
 abbrev pub unbuilt_words : List (List ℕ)
 unbuilt_words =
     codes "handler" ∷ codes "repeat" ∷ codes "task_create" ∷ codes "task_exit"

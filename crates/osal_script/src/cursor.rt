@@ -1,7 +1,7 @@
 //! The cursor: how far a task has come in its script.
 ghost use Rattle.std.specs.Prelude.{◌≡◌, ◌≤◌, length, map, drop, IfOk, OnErr, OnOk, option_copied, option_map, slice_index};
 ghost use Rattle.osal_base.specs.Reply.{reply_of};
-ghost use Rattle.osal_machine.specs.Call.{said, IsBuilt};
+ghost use Rattle.osal_machine.specs.Call.{said};
 ghost use Rattle.osal_script.specs.Script as script;
 ghost use Rattle.osal_script.specs.declared.cursor.Phase.TheVariants as phase;
 ghost use Rattle.osal_script.specs.Script.{start_of, after, moved, state_of, first_line, line_of, phase_after_checkpoint, item_call, IsStep, MovesTo};
@@ -224,8 +224,7 @@ fn step_at(alloc: Global, items: &[Item], place: &Place) -> Result<Step, OutOfMe
 
 /// The call of a line under the registers, or the exit where there is no line.
 fn call_at(alloc: Global, item: Option<&Item>, registers: &[u32; 32]) -> Result<Call, OutOfMemory>
-    ensures made { IfOk result (λ call. said call ≡ item_call (option_copied item.entry) registers.now) }
-    ensures built { IfOk result IsBuilt }
+    ensures { IfOk result (λ call. said call ≡ item_call (option_copied item.entry) registers.now) }
 {
     let Some(Item::Call(line)) = item else {
         return Ok(Call::TaskExit);

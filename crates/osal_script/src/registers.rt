@@ -46,7 +46,7 @@ impl Registers {
         self.over
     }
 
-    /// Whether a wait was met that the machine does not make yet.
+    /// Whether a wait was met that scripts do not make yet.
     pub fn is_unbuilt(&self) -> bool
         ensures { result ≡ self.now.unbuilt }
     {

@@ -1,14 +1,14 @@
 //! The binary semaphore part.
-ghost use Rattle.std.specs.Prelude.{◌≡◌, IsOk, IfOk};
+ghost use Rattle.std.specs.Prelude.{◌≡◌, IsOk, IfOk, is_some};
 ghost use Rattle.osal_base.specs.Limits.{Fits};
 ghost use Rattle.osal_base.specs.Reply.{replied};
-ghost use Rattle.osal_base.specs.Time.{IsCheck};
-ghost use Rattle.osal_sem.specs.Binary.{no_bin_sems, bin_sem_create_step, bin_sem_take_step, bin_sem_give_step, bin_sem_delete_step, bin_sem_find_step, bin_sem_info_step, hold_step, release_step};
+ghost use Rattle.osal_idtable.specs.Table.{active_at};
+ghost use Rattle.osal_sem.specs.Binary.{no_bin_sems, bin_sem_create_step, bin_sem_take_step, bin_sem_give_step, bin_sem_flush_step, bin_sem_delete_step, bin_sem_find_step, bin_sem_info_step, hold_step, release_step};
 
 use osal_base::{
     Ack, Bytes, Limits, Moment, Name, ObjType, OsalId, OutOfMemory, Room, Status, Timeout,
 };
-use osal_idtable::{Table, create, delete, find, hold, release, status_of_name};
+use osal_idtable::{Objects, Standing, WaitRecord, status_of_name};
 use std::alloc::Global;
 use std::marker::Model;
 
@@ -18,35 +18,34 @@ pub struct BinSem {
     pub full: bool,
 }
 
-/// The table of binary semaphores.
+/// The binary semaphores, and the takes that wait.
 #[derive(Drop)]
 pub struct BinSemPart {
-    table: Table<BinSem>,
+    pub(crate) objects: Objects<BinSem, OsalId>,
 }
 
 impl Model for BinSemPart {
     ghost use Rattle.osal_sem.specs.Binary.{BinSemState};
     ghost use Rattle.std.specs.Coded.{codes};
-    ghost use Rattle.osal_idtable.specs.Code.{table_code};
+    ghost use Rattle.osal_idtable.specs.Code.{objects_code};
 
     ghost Value = { BinSemState };
 
-    ghost coded = { Prim.hlevel (codes, table_code) };
+    ghost coded = { Prim.hlevel (codes, objects_code) };
 
-    ghost view = { λ a. record { table = a.table } };
+    ghost view = { λ a. record { objects = a.objects } };
 
     ghost invariant = { λ a. Unit {0} };
 }
 
 impl BinSemPart {
-    /// No semaphores, with room for as many as the limits say.
+    /// No semaphores, with the memory for as many as the limits say, and for a take of each task.
     pub fn open(alloc: Global, limits: &Limits) -> Result<BinSemPart, OutOfMemory>
         requires { Fits limits.now }
         ensures { IfOk result (λ part. part ≡ no_bin_sems limits.now) }
     {
-        Ok(BinSemPart {
-            table: Table::new(alloc, ObjType::BinSem, limits.bin_sems)?,
-        })
+        let objects = Objects::new(alloc, ObjType::BinSem, limits.bin_sems, limits.tasks)?;
+        Ok(BinSemPart { objects })
     }
 
     /// `OS_BinSemCreate`: makes a semaphore and gives its identifier. A value above 1 counts as 1.
@@ -70,33 +69,39 @@ impl BinSemPart {
             Ok(name) => name,
             Err(fault) => return Ok(Ack::refused(status_of_name(fault))),
         };
-        Ok(create(&mut self.table, name, BinSem { full: 0 < value }))
+        Ok(self.objects.create(name, BinSem { full: 0 < value }))
     }
 
-    /// `OS_BinSemTimedWait` with `OS_CHECK`: empties a semaphore that is full. It takes no memory.
+    /// `OS_BinSemTake` and `OS_BinSemTimedWait`: empties a semaphore that is full. It takes no memory.
+    ///
+    /// At an empty one the task waits, and `wait_end` answers. Meanwhile the semaphore is held.
     pub fn bin_sem_take(
         &mut self,
         _alloc: Global,
-        _task: OsalId,
-        _now: Moment,
+        task: OsalId,
+        now: Moment,
         id: OsalId,
-        _wait: Timeout,
+        wait: Timeout,
         room: &mut Room,
     ) -> Result<Ack, OutOfMemory>
-        requires check { IsCheck _wait }
-        ensures step { IfOk result (λ ack. (replied ack room.new, self.new) ≡ bin_sem_take_step self.old id) }
+        ensures step { IfOk result (λ ack. (replied ack room.new, self.new)
+            ≡ bin_sem_take_step self.old task now id wait) }
         ensures memory { IsOk result }
     {
         room.clear();
-        let sem = match self.table.lookup(id) {
+        let sem = match self.objects.lookup(id) {
             Ok(sem) => *sem,
             Err(_) => return Ok(Ack::refused(Status::ErrInvalidId)),
         };
-        if !sem.full {
+        if sem.full {
+            self.objects.put(id, BinSem { full: false });
+            return Ok(Ack::success());
+        }
+        if wait.is_check() {
             return Ok(Ack::refused(Status::SemTimeout));
         }
-        self.table.put(id, BinSem { full: false });
-        Ok(Ack::success())
+        let record = WaitRecord::new(task, id, Standing::new(Some(id)), wait, now);
+        Ok(self.objects.begin(record))
     }
 
     /// `OS_BinSemGive`: fills a semaphore. It takes no memory.
@@ -112,10 +117,30 @@ impl BinSemPart {
         ensures memory { IsOk result }
     {
         room.clear();
-        if self.table.lookup(id).is_err() {
+        if self.objects.lookup(id).is_err() {
             return Ok(Ack::refused(Status::ErrInvalidId));
         }
-        self.table.put(id, BinSem { full: true });
+        self.objects.put(id, BinSem { full: true });
+        Ok(Ack::success())
+    }
+
+    /// `OS_BinSemFlush`: releases each take that waits; the value stays. It takes no memory.
+    pub fn bin_sem_flush(
+        &mut self,
+        _alloc: Global,
+        _task: OsalId,
+        _now: Moment,
+        id: OsalId,
+        room: &mut Room,
+    ) -> Result<Ack, OutOfMemory>
+        ensures step { IfOk result (λ ack. (replied ack room.new, self.new) ≡ bin_sem_flush_step self.old id) }
+        ensures memory { IsOk result }
+    {
+        room.clear();
+        if !self.objects.is_active(id) {
+            return Ok(Ack::refused(Status::ErrInvalidId));
+        }
+        self.objects.release_on(id);
         Ok(Ack::success())
     }
 
@@ -132,7 +157,7 @@ impl BinSemPart {
         ensures memory { IsOk result }
     {
         room.clear();
-        Ok(delete(&mut self.table, id))
+        Ok(self.objects.delete(id))
     }
 
     /// `OS_BinSemGetIdByName`: gives the identifier of a semaphore. It looks at each slot at most.
@@ -148,7 +173,7 @@ impl BinSemPart {
         ensures memory { IsOk result }
     {
         room.clear();
-        Ok(find(&self.table, name.as_slice()))
+        Ok(self.objects.find(name.as_slice()))
     }
 
     /// `OS_BinSemGetInfo`: gives the value of a semaphore, 1 or 0, and its name.
@@ -164,11 +189,11 @@ impl BinSemPart {
         ensures memory { IsOk result }
     {
         room.clear();
-        let full = match self.table.lookup(id) {
+        let full = match self.objects.lookup(id) {
             Ok(sem) => sem.full,
             Err(_) => return Ok(Ack::refused(Status::ErrInvalidId)),
         };
-        if let Ok(Some(name)) = self.table.name_of(id) {
+        if let Ok(Some(name)) = self.objects.name_of(id) {
             room.append(name.as_slice());
         }
         Ok(Ack::gives(u64::from(full)))
@@ -187,7 +212,7 @@ impl BinSemPart {
         ensures memory { IsOk result }
     {
         room.clear();
-        Ok(hold(&mut self.table, id))
+        Ok(self.objects.hold(id))
     }
 
     /// Gives a hold of a semaphore back.
@@ -203,6 +228,13 @@ impl BinSemPart {
         ensures memory { IsOk result }
     {
         room.clear();
-        Ok(release(&mut self.table, id))
+        Ok(self.objects.release(id))
+    }
+
+    /// Whether an identifier is one of an active semaphore.
+    pub fn active(&self, id: OsalId) -> bool
+        ensures { result ≡ is_some (active_at self.now.objects.table id) }
+    {
+        self.objects.is_active(id)
     }
 }

@@ -2,5 +2,8 @@
 #![tactic(auto)]
 
 mod binary;
+#[cfg(test)]
+mod tests;
+mod waiting;
 
 pub use binary::{BinSem, BinSemPart};

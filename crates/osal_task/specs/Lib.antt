@@ -1,3 +1,6 @@
 pub use Rattle.osal_idtable.specs.Table
 pub use Rattle.osal_idtable.specs.Steps
+pub use Rattle.osal_idtable.specs.Objects
+pub use Rattle.osal_idtable.specs.Waits
 pub mod Tasks
+pub mod Delays

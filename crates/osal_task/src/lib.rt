@@ -1,6 +1,10 @@
 //! Tasks: the calls of OSAL's `osapi-task.h`, and the checkpoint at which a task learns whether it goes on.
 #![tactic(auto)]
 
+mod calls;
+mod delays;
 mod part;
+#[cfg(test)]
+mod tests;
 
 pub use part::{Task, TaskPart};

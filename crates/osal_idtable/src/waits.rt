@@ -1,0 +1,176 @@
+//! The open waits of a part.
+ghost use Rattle.std.specs.Prelude.{◌≡◌, ◌<◌, ◌≤◌, length, not, filter, map, IfOk, option_copied};
+ghost use Rattle.std.specs.Vec.{vec_capacity};
+ghost use Rattle.osal_base.specs.Limits.{IsCapacity};
+ghost use Rattle.osal_idtable.specs.Waits.{no_waits, new_wait, is_of, wait_of, is_due, stands_on, waits_on, wait_fault, with_wait, without_wait, released_if, released_where};
+
+use crate::Standing;
+use osal_base::{Moment, OsalId, OutOfMemory, Status, Timeout};
+use std::alloc::Global;
+use std::marker::Model;
+
+/// A call that waits. It is `open -> ended` or `open -> abandoned`; meanwhile it may be released.
+#[derive(Debug, Drop)]
+pub struct WaitRecord<W> {
+    /// Whose call it is.
+    pub task: OsalId,
+    /// What it waits for.
+    pub what: W,
+    /// What it holds.
+    pub on: Standing,
+    /// The moment from which it is due, where it has one.
+    pub deadline: Option<Moment>,
+    /// Whether somebody has released it: it is ready then.
+    pub released: bool,
+}
+
+impl<W> WaitRecord<W> {
+    /// The wait of a task's call that waits from now on.
+    pub fn new(task: OsalId, what: W, on: Standing, wait: Timeout, now: Moment) -> WaitRecord<W>
+        ensures { result ≡ new_wait task what on wait now }
+    {
+        WaitRecord {
+            task,
+            what,
+            on,
+            deadline: wait.deadline(now),
+            released: false,
+        }
+    }
+
+    /// Whether its deadline has come.
+    pub fn is_due(&self, now: Moment) -> bool
+        ensures { result ≡ is_due self.now now }
+    {
+        now.has_reached(self.deadline)
+    }
+
+    /// Whether it stands on an object.
+    pub fn stands_on(&self, id: OsalId) -> bool
+        ensures { result ≡ stands_on id self.now }
+    {
+        match self.on.id() {
+            None => false,
+            Some(on) => on == id,
+        }
+    }
+
+    /// Releases it where it stands on an object.
+    fn release_on(&mut self, id: OsalId)
+        ensures { self.new ≡ released_if (stands_on id) self.old }
+    {
+        if self.stands_on(id) {
+            self.released = true;
+        }
+    }
+}
+
+/// The open waits of a part, oldest first: at most one of a task, and so many as there may be tasks.
+#[derive(Debug, Drop)]
+pub(crate) struct Waits<W> {
+    records: Vec<WaitRecord<W>>,
+    capacity: u32,
+}
+
+impl<W> Model for Waits<W> {
+    ghost use Rattle.std.specs.Prelude.{◌≤◌, length};
+    ghost use Rattle.std.specs.Vec.{vec_capacity};
+    ghost use Rattle.osal_idtable.specs.Waits.{WaitsState};
+
+    ghost Value = { WaitsState W };
+
+    ghost view = { λ a. record { records = a.records.items; capacity = a.capacity } };
+
+    ghost invariant = { λ a. (length a.records.items ≤ a.capacity) × (a.capacity ≤ 1024) × (a.capacity ≤ vec_capacity a.records) };
+}
+
+impl<W> Waits<W> {
+    /// No open waits, with room for so many.
+    pub(crate) fn new(alloc: Global, capacity: u32) -> Result<Waits<W>, OutOfMemory>
+        requires { IsCapacity capacity }
+        ensures { IfOk result (λ waits. waits ≡ no_waits capacity) }
+    {
+        let records = Vec::with_capacity(alloc, capacity as usize)?;
+        Ok(Waits { records, capacity })
+    }
+
+    /// The open wait of a task. It looks at each wait at most.
+    pub(crate) fn wait_of(&self, task: OsalId) -> Option<&WaitRecord<W>>
+        ensures { option_copied result ≡ wait_of self.now task }
+    {
+        for wait in &self.records {
+            if wait.task == task {
+                return Some(wait);
+            }
+        }
+        None
+    }
+
+    /// Why a task may not begin a wait: it waits already, or there is no room for one more.
+    pub(crate) fn fault(&self, task: OsalId) -> Option<Status>
+        ensures { result ≡ wait_fault self.now task }
+    {
+        if self.wait_of(task).is_some() {
+            return Some(Status::ErrIncorrectObjState);
+        }
+        if self.records.len() < self.capacity as usize {
+            return None;
+        }
+        Some(Status::Error)
+    }
+
+    /// Adds a wait, the newest. It takes no memory.
+    pub(crate) fn open(&mut self, wait: WaitRecord<W>)
+        requires { length self.old.records < self.old.capacity }
+        ensures { self.new ≡ with_wait self.old wait }
+    {
+        self.records.push_reserved(wait);
+    }
+
+    /// How many open waits stand on an object. It looks at each.
+    pub(crate) fn count_on(&self, id: OsalId) -> u32
+        ensures { result ≡ waits_on self.now id }
+    {
+        let mut count = 0;
+        for wait in &self.records {
+            if wait.stands_on(id) {
+                count += 1;
+            }
+        }
+        count
+    }
+}
+
+impl<W: Drop> Waits<W> {
+    /// Takes the wait of a task out, where it has one.
+    pub(crate) fn close(&mut self, task: OsalId)
+        ensures { self.new ≡ without_wait self.old task }
+    {
+        take_out(&mut self.records, task);
+    }
+
+    /// Releases each wait that stands on an object.
+    pub(crate) fn release_on(&mut self, id: OsalId)
+        ensures { self.new ≡ released_where self.old (stands_on id) }
+    {
+        release_all_on(self.records.as_mut_slice(), id);
+    }
+}
+
+/// Takes the waits of a task out.
+fn take_out<W: Drop>(waits: &mut Vec<WaitRecord<W>>, task: OsalId)
+    ensures others { waits.new.items ≡ filter (λ wait. not (is_of task wait)) waits.old.items }
+    ensures fewer { length waits.new.items ≤ length waits.old.items }
+    ensures room { vec_capacity waits.new ≡ vec_capacity waits.old }
+{
+    waits.retain(|wait| wait.task != task);
+}
+
+/// Releases each of the waits that stands on an object.
+fn release_all_on<W>(waits: &mut [WaitRecord<W>], id: OsalId)
+    ensures { waits.new ≡ map (released_if (stands_on id)) waits.old }
+{
+    for wait in waits.iter_mut() {
+        wait.release_on(id);
+    }
+}

@@ -1,0 +1,100 @@
+-- A call on an identifier that is not active is refused by that.
+use Rattle.std.proofs.Common.{◌≡◌, ℕ, false, Option, Some, None, is_some, nat_lt, refl, ap, ◌∙◌}
+use Rattle.osal_base.specs.declared.status.Status.TheVariants as status
+use Rattle.osal_base.specs.declared.time.Moment.{Moment}
+use Rattle.osal_base.specs.Reply.{Replied, refusal}
+use Rattle.osal_idtable.specs.Table.{Active, TableState, active_at}
+use Rattle.osal_idtable.specs.Steps.{take_out, unheld}
+use Rattle.osal_idtable.specs.Faults.{answered}
+use Rattle.osal_idtable.specs.Objects.{ObjectsState, delete_step, hold_call_step, release_call_step, held_by_caller, released_by_caller}
+use Rattle.osal_task.specs.Tasks as of_tasks
+use Rattle.osal_task.specs.Tasks.{TaskState}
+use Rattle.osal_sem.specs.Binary as of_sems
+use Rattle.osal_sem.specs.Binary.{BinSemState}
+use Rattle.osal_machine.specs.declared.call.Call.{Call}
+use Rattle.osal_machine.specs.declared.call.Call.TheVariants as call
+use Rattle.osal_machine.specs.Call.{part_of_id}
+use Rattle.osal_machine.specs.Parts.{PartState, Tasks, BinSems, Time, Absent, part_step, is_active_in}
+use Rattle.osal_machine.specs.Step.{MachineState, part_in, step}
+use Rattle.osal_machine.specs.History.{replay}
+use Rattle.osal_machine.specs.Laws.{StaleIdentifiersAreRefused, subject_of, is_active_for, is_refused_before}
+use Rattle.osal_machine.proofs.Histories.{legal_last}
+
+-- a call is refused, since its identifier is not active
+abbrev IsStale : Replied → Type 0
+IsStale reply = reply ≡ refusal status.ErrInvalidId
+
+none_of : {X : Type 0} (found : Option X) → is_some found ≡ false → found ≡ None
+none_of None none = refl
+none_of (Some x) none = cc
+
+-- nothing stands under the identifier that a call is on
+nothing_at : {T : Type 0} (table : TableState T) (other id : ℕ) → Some other ≡ Some id → is_some (active_at table id) ≡ false → active_at table other ≡ None
+nothing_at table other id same none =
+    let is : other ≡ id = cc in
+    ap (active_at table) is ∙ none_of (active_at table id) none
+
+module _ {T W : Type 0} (objects : ObjectsState T W) (id : ℕ) (none : active_at objects.table id ≡ None) where
+  stale_delete : IsStale (delete_step objects id).0
+  stale_delete = ap (λ (o : Option (Active T)). answered (take_out objects.table id (unheld o)).0) none
+
+  stale_hold : IsStale (hold_call_step objects id).0
+  stale_hold = ap (λ (o : Option (Active T)). (held_by_caller objects id o).0) none
+
+  stale_release : IsStale (release_call_step objects id).0
+  stale_release = ap (λ (o : Option (Active T)). (released_by_caller objects id o).0) none
+
+-- a hold of an identifier that is not active
+stale_hold_in : (part : PartState) (task : ℕ) (now : Moment) (other id : ℕ) → Some other ≡ Some id → is_active_in part id ≡ false → IsStale (part_step part task now (call.Hold other)).0
+stale_hold_in (Tasks tasks) task now other id same none =
+    ap (λ o. (of_tasks.held_by tasks other o).0) (nothing_at tasks.objects.table other id same none)
+stale_hold_in (BinSems sems) task now other id same none =
+    stale_hold sems.objects other (nothing_at sems.objects.table other id same none)
+stale_hold_in (Time time) task now other id same none = refl
+stale_hold_in Absent task now other id same none = refl
+
+-- a release of an identifier that is not active
+stale_release_in : (part : PartState) (task : ℕ) (now : Moment) (other id : ℕ) → Some other ≡ Some id → is_active_in part id ≡ false → IsStale (part_step part task now (call.Release other)).0
+stale_release_in (Tasks tasks) task now other id same none =
+    stale_release tasks.objects other (nothing_at tasks.objects.table other id same none)
+stale_release_in (BinSems sems) task now other id same none =
+    stale_release sems.objects other (nothing_at sems.objects.table other id same none)
+stale_release_in (Time time) task now other id same none = refl
+stale_release_in Absent task now other id same none = refl
+
+-- a priority that may be
+stale_priority : (tasks : TaskState) (id priority : ℕ) → nat_lt of_tasks.lowest_priority priority ≡ false → of_tasks.task_at tasks id ≡ None → IsStale (of_tasks.task_set_priority_step tasks id priority).0
+stale_priority tasks id priority may none = rw (may, none)
+
+stale_step : (state : MachineState) (task : ℕ) (now : Moment) (made : Call) (id : ℕ) → subject_of task made ≡ Some id → is_active_for state made id ≡ false → is_refused_before made ≡ false → IsStale (step state task now made).0
+stale_step state task now call.TaskExit id same none may =
+    stale_delete state.tasks.objects task (nothing_at state.tasks.objects.table task id same none)
+stale_step state task now call.Checkpoint id same none may =
+    ap (λ o. (of_tasks.passed_by state.tasks task o).0) (nothing_at state.tasks.objects.table task id same none)
+stale_step state task now (call.TaskDelete other) id same none may =
+    ap (λ o. (of_tasks.marked_by state.tasks other o).0) (nothing_at state.tasks.objects.table other id same none)
+stale_step state task now (call.TaskSetPriority other priority) id same none may =
+    stale_priority state.tasks other priority may (nothing_at state.tasks.objects.table other id same none)
+stale_step state task now (call.TaskInfo other) id same none may =
+    ap of_tasks.info_of (nothing_at state.tasks.objects.table other id same none)
+stale_step state task now (call.BinSemGive other) id same none may =
+    ap (λ o. (of_sems.give_to state.bin_sems other o).0) (nothing_at state.bin_sems.objects.table other id same none)
+stale_step state task now (call.BinSemFlush other) id same none may =
+    ap (λ o. (of_sems.flushed state.bin_sems other o).0) (nothing_at state.bin_sems.objects.table other id same none)
+stale_step state task now (call.BinSemTake other wait) id same none may =
+    ap (λ o. (of_sems.take_from state.bin_sems task now other wait o).0) (nothing_at state.bin_sems.objects.table other id same none)
+stale_step state task now (call.BinSemDelete other) id same none may =
+    stale_delete state.bin_sems.objects other (nothing_at state.bin_sems.objects.table other id same none)
+stale_step state task now (call.BinSemInfo other) id same none may =
+    ap of_sems.info_of (nothing_at state.bin_sems.objects.table other id same none)
+stale_step state task now (call.Hold other) id same none may =
+    stale_hold_in (part_in (part_of_id other) state) task now other id same none
+stale_step state task now (call.Release other) id same none may =
+    stale_release_in (part_in (part_of_id other) state) task now other id same none
+stale_step state task now other id same none may = cc
+
+-- an entry on an identifier that is not active is refused by that
+pub stale_refused : StaleIdentifiersAreRefused
+stale_refused limits before entry id legal same none may =
+    legal_last _ before entry legal
+    ∙ stale_step (replay limits before) entry.task entry.now entry.call id same none may

@@ -1,0 +1,88 @@
+-- The parts of the machine, each with the calls that are its own.
+use Rattle.std.specs.Prelude.{ℕ, Bool, false, is_some}
+use Rattle.osal_base.specs.declared.status.Status.TheVariants as status
+use Rattle.osal_base.specs.declared.time.Moment.{Moment}
+use Rattle.osal_base.specs.Reply.{Replied, refusal}
+use Rattle.osal_task.specs.Tasks as of_tasks
+use Rattle.osal_task.specs.Tasks.{TaskState, task_at}
+use Rattle.osal_task.specs.Delays as of_delays
+use Rattle.osal_sem.specs.Binary as of_sems
+use Rattle.osal_sem.specs.Binary.{BinSemState, bin_sem_at}
+use Rattle.osal_machine.specs.Time.{TimeState, advance_step}
+use Rattle.osal_machine.specs.declared.call.Call.{Call}
+use Rattle.osal_machine.specs.declared.call.Call.TheVariants as call
+
+-- the state of one part; a part that is not built is absent
+pub data PartState : Type 0 where
+  Tasks : TaskState → PartState
+  BinSems : BinSemState → PartState
+  Time : TimeState → PartState
+  Absent : PartState
+
+-- what a part without objects and waits answers: no identifier is active, and no task waits
+abbrev pub absent_reply : Call → Replied
+absent_reply (call.Hold id) = refusal status.ErrInvalidId
+absent_reply (call.Release id) = refusal status.ErrInvalidId
+absent_reply other = refusal status.ErrIncorrectObjState
+
+-- the calls of the task part
+abbrev pub task_step : TaskState → ℕ → Moment → Call → Replied × TaskState
+task_step tasks task now (call.TaskCreate name body stack priority) =
+    of_tasks.task_create_step tasks name.bytes body stack priority
+task_step tasks task now call.TaskExit = of_tasks.task_exit_step tasks task
+task_step tasks task now (call.TaskDelete id) = of_tasks.task_delete_step tasks id
+task_step tasks task now (call.TaskSetPriority id priority) = of_tasks.task_set_priority_step tasks id priority
+task_step tasks task now (call.TaskFind name) = of_tasks.task_find_step tasks name.bytes
+task_step tasks task now (call.TaskInfo id) = of_tasks.task_info_step tasks id
+task_step tasks task now (call.TaskDelay ms) = of_delays.task_delay_step tasks task now ms
+task_step tasks task now call.Checkpoint = of_tasks.checkpoint_step tasks task
+task_step tasks task now (call.Hold id) = of_tasks.hold_step tasks id
+task_step tasks task now (call.Release id) = of_tasks.release_step tasks id
+task_step tasks task now (call.WaitEnd part) = of_delays.wait_end_step tasks task now part
+task_step tasks task now (call.WaitAbandon part) = of_delays.wait_abandon_step tasks task part
+task_step tasks task now other = (absent_reply other, tasks)
+
+-- the calls of the binary semaphore part
+abbrev pub bin_sem_step : BinSemState → ℕ → Moment → Call → Replied × BinSemState
+bin_sem_step sems task now (call.BinSemCreate name value) = of_sems.bin_sem_create_step sems name.bytes value
+bin_sem_step sems task now (call.BinSemGive id) = of_sems.bin_sem_give_step sems id
+bin_sem_step sems task now (call.BinSemFlush id) = of_sems.bin_sem_flush_step sems id
+bin_sem_step sems task now (call.BinSemTake id wait) = of_sems.bin_sem_take_step sems task now id wait
+bin_sem_step sems task now (call.BinSemDelete id) = of_sems.bin_sem_delete_step sems id
+bin_sem_step sems task now (call.BinSemFind name) = of_sems.bin_sem_find_step sems name.bytes
+bin_sem_step sems task now (call.BinSemInfo id) = of_sems.bin_sem_info_step sems id
+bin_sem_step sems task now (call.Hold id) = of_sems.hold_step sems id
+bin_sem_step sems task now (call.Release id) = of_sems.release_step sems id
+bin_sem_step sems task now (call.WaitEnd part) = of_sems.wait_end_step sems task now
+bin_sem_step sems task now (call.WaitAbandon part) = of_sems.wait_abandon_step sems task
+bin_sem_step sems task now other = (absent_reply other, sems)
+
+-- the calls of the time part
+abbrev pub time_step : TimeState → Call → Replied × TimeState
+time_step time (call.Advance to) = advance_step time to
+time_step time other = (absent_reply other, time)
+
+-- a part's call changes that part
+abbrev pub as_part : {S : Type 0} → (S → PartState) → Replied × S → Replied × PartState
+as_part part stepped = (stepped.0, part stepped.1)
+
+-- what a task's call of a part answers, and the part after it
+abbrev pub part_step : PartState → ℕ → Moment → Call → Replied × PartState
+part_step (Tasks tasks) task now made = as_part (λ s. Tasks s) (task_step tasks task now made)
+part_step (BinSems sems) task now made = as_part (λ s. BinSems s) (bin_sem_step sems task now made)
+part_step (Time time) task now made = as_part (λ s. Time s) (time_step time made)
+part_step Absent task now made = (absent_reply made, Absent)
+
+-- whether an identifier is active in a part
+abbrev pub is_active_in : PartState → ℕ → Bool
+is_active_in (Tasks tasks) id = is_some (task_at tasks id)
+is_active_in (BinSems sems) id = is_some (bin_sem_at sems id)
+is_active_in (Time time) id = false
+is_active_in Absent id = false
+
+-- whether a task is active in a part and not marked for deletion: only the task part has tasks
+abbrev pub goes_in : PartState → ℕ → Bool
+goes_in (Tasks tasks) id = of_tasks.goes tasks id
+goes_in (BinSems sems) id = false
+goes_in (Time time) id = false
+goes_in Absent id = false

@@ -1,0 +1,37 @@
+//! What holds of every history of the machine, as clauses of functions that do nothing.
+ghost use Rattle.osal_machine.specs.Laws.{StaleIdentifiersAreRefused, WrapCountRises, HeldObjectsAreKept, CallsChangeTheirPart, PartsReplayAlone, MarkedTasksAreUnheld, DeletedTasksAreGone};
+
+/// An entry on an identifier that is not active is refused by that, where nothing refuses it before.
+pub fn stale_identifiers_are_refused()
+    ensures { StaleIdentifiersAreRefused }
+{}
+
+/// Between two entries that make the same identifier active the wrap count of its type rises.
+pub fn wrap_count_rises()
+    ensures { WrapCountRises }
+{}
+
+/// An entry that makes an identifier not active found no holds on it.
+pub fn held_objects_are_kept()
+    ensures { HeldObjectsAreKept }
+{}
+
+/// A call changes its own part alone.
+pub fn calls_change_their_part()
+    ensures { CallsChangeTheirPart }
+{}
+
+/// The replay of a part depends on its own entries alone.
+pub fn parts_replay_alone()
+    ensures { PartsReplayAlone }
+{}
+
+/// A task that is marked for deletion is not held.
+pub fn marked_tasks_are_unheld()
+    ensures { MarkedTasksAreUnheld }
+{}
+
+/// A checkpoint that answers that its task was deleted has removed it.
+pub fn deleted_tasks_are_gone()
+    ensures { DeletedTasksAreGone }
+{}

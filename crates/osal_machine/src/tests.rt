@@ -1,0 +1,169 @@
+//! Which part each identifier and wait is of, and what the machine answers for each part.
+
+use crate::{AnyPart, Call, Entry, Journal, Part, TimePart, Whole, part_of};
+use osal_base::Status::{ErrIncorrectObjState, ErrInvalidId, Error};
+use osal_base::{Answer, Bytes, Limits, Moment, OsalId, Reply, Room, Status};
+use osal_task::TaskPart;
+use std::alloc::Global;
+use std::process::Abort;
+use std::test::Fail;
+
+const A: u32 = 0x0001_0001;
+
+// Makes a call of the task A at the start, on the whole machine.
+fn made<R: Abort + AllocGlobal>(rt: &R, whole: &mut Whole, call: &Call) -> Result<Answer, Fail> {
+    let mut room = Room::new();
+    let ack = whole.apply(
+        rt.alloc(),
+        OsalId::of_raw(A),
+        Moment::START,
+        call,
+        &mut room,
+    )?;
+    Ok(ack.answer)
+}
+
+fn refused(status: Status) -> Answer {
+    Answer::Code(status.number())
+}
+
+#[test]
+fn an_identifier_is_of_the_part_of_its_type(rt: HostRuntime) {
+    for (raw, part) in [
+        (0x0000_0001, 0),
+        (0x0001_0001, 0),
+        (0x0002_0001, 1),
+        (0x0003_0001, 2),
+        (0x0004_0001, 3),
+        (0x0005_0001, 4),
+        (0x0006_0001, 7),
+        (0x0007_0001, 7),
+        (0x0008_0001, 6),
+        (0x0009_0001, 6),
+        (0x000a_0001, 0),
+        (0x000b_0001, 7),
+        (0x000c_0001, 8),
+        (0x000d_0001, 5),
+        (0x000e_0001, 0),
+    ] {
+        let id = OsalId::of_raw(raw);
+        assert_eq!(rt; part_of(&Call::Hold { id }), part, "{raw}");
+    }
+    for (wait, part) in [(0, 0), (3, 3), (8, 8), (9, 0), (u32::MAX, 0)] {
+        assert_eq!(rt; part_of(&Call::WaitEnd { part: wait }), part, "wait {wait}");
+    }
+}
+
+#[test]
+fn what_is_not_built_has_no_objects_and_no_waits(rt: HostRuntime) -> Result<(), Fail> {
+    let mut whole = Whole::open(rt.alloc(), &Limits::version1())?;
+    for part in [1, 2, 4, 5, 6, 7, 8, 9] {
+        let answer = made(&rt, &mut whole, &Call::WaitEnd { part })?;
+        assert_eq!(rt; answer, refused(ErrIncorrectObjState), "part {part}");
+        assert!(rt; whole.ready(OsalId::of_raw(A), Moment::START, part));
+    }
+    for raw in [0x0002_0001, 0x0008_0001, 0x000d_0001, 0x000e_0001] {
+        let id = OsalId::of_raw(raw);
+        let answer = made(&rt, &mut whole, &Call::Hold { id })?;
+        assert_eq!(rt; answer, refused(ErrInvalidId), "{raw}");
+        assert!(rt; !whole.active(id));
+    }
+    Ok(())
+}
+
+#[test]
+fn time_goes_on_to_a_later_moment_alone(rt: HostRuntime) -> Result<(), Fail> {
+    let mut whole = Whole::open(rt.alloc(), &Limits::version1())?;
+    for (to, answer) in [
+        (0, refused(Error)),
+        (5, Answer::Code(0)),
+        (5, refused(Error)),
+        (4, refused(Error)),
+        (u64::MAX, Answer::Code(0)),
+        (u64::MAX, refused(Error)),
+    ] {
+        assert_eq!(rt;
+            made(&rt, &mut whole, &Call::Advance { to })?,
+            answer,
+            "to {to}"
+        );
+    }
+    assert_eq!(rt; whole.moment(), Moment { ms: u64::MAX });
+    Ok(())
+}
+
+// Whether a part of any kind has the task A, and whether it goes on there.
+fn look<P: Part>(part: &P) -> (bool, bool) {
+    (part.active(OsalId::of_raw(A)), part.goes(OsalId::of_raw(A)))
+}
+
+#[test]
+fn a_task_goes_on_until_it_is_marked(rt: HostRuntime) -> Result<(), Fail> {
+    let mut whole = Whole::open(rt.alloc(), &Limits::version1())?;
+    assert_eq!(rt; look(&whole), (false, false));
+    let create = Call::TaskCreate {
+        name: Bytes::copy(rt.alloc(), b"a")?,
+        body: 0,
+        stack: 0,
+        priority: 0,
+    };
+    assert_eq!(rt; made(&rt, &mut whole, &create)?, Answer::Code(0));
+    assert_eq!(rt; look(&whole), (true, true));
+    let id = OsalId::of_raw(A);
+    assert_eq!(rt;
+        made(&rt, &mut whole, &Call::TaskDelete { id })?,
+        Answer::Code(0)
+    );
+    assert_eq!(rt; look(&whole), (true, false));
+    assert_eq!(rt; made(&rt, &mut whole, &Call::Checkpoint)?, Answer::Deleted);
+    assert_eq!(rt; look(&whole), (false, false));
+    assert_eq!(rt; look(&AnyPart::Time(TimePart::new())), (false, false));
+    let tasks = TaskPart::open(rt.alloc(), &Limits::version1())?;
+    assert_eq!(rt; look(&AnyPart::Task(tasks)), (false, false));
+    Ok(())
+}
+
+fn entry(alloc: Global, caller: u32, call: Call) -> Entry {
+    let reply = Reply {
+        answer: Answer::Go,
+        number: 0,
+        bytes: Bytes::new(alloc),
+    };
+    Entry {
+        caller,
+        task: OsalId::of_raw(A),
+        now: Moment::START,
+        call,
+        reply,
+    }
+}
+
+#[test]
+fn a_journal_keeps_its_entries_in_order(rt: HostRuntime) -> Result<(), Fail> {
+    let mut journal = Journal::new(rt.alloc());
+    assert_eq!(rt; journal.len(), 0);
+    journal.reserve(2)?;
+    journal.push(entry(rt.alloc(), 2, Call::Checkpoint));
+    journal.push(entry(rt.alloc(), 3, Call::TaskExit));
+    journal.reserve(1)?;
+    journal.push(entry(rt.alloc(), 4, Call::Advance { to: 5 }));
+    assert_eq!(rt; journal.len(), 3);
+    assert_eq!(rt; journal.entries().len(), 3);
+    for (at, caller) in [
+        (0, Some(2)),
+        (1, Some(3)),
+        (2, Some(4)),
+        (3, None),
+        (u64::MAX, None),
+    ] {
+        assert_eq!(rt;
+            journal.entry(at).map(|entry| entry.caller),
+            caller,
+            "at {at}"
+        );
+    }
+    journal.clear();
+    assert_eq!(rt; journal.len(), 0);
+    assert!(rt; journal.entry(0).is_none());
+    Ok(())
+}

@@ -1,0 +1,185 @@
+//! The calls of OSAL's `osapi-task.h`, and the checkpoint.
+ghost use Rattle.std.specs.Prelude.{◌≡◌, IsOk, IfOk};
+ghost use Rattle.osal_base.specs.Reply.{replied};
+ghost use Rattle.osal_task.specs.Tasks.{task_create_step, task_exit_step, task_delete_step, task_set_priority_step, task_find_step, task_info_step, checkpoint_step};
+
+use crate::{Task, TaskPart};
+use osal_base::{Ack, Bytes, Moment, Name, OsalId, OutOfMemory, Room, Status};
+use osal_idtable::status_of_name;
+use std::alloc::Global;
+
+/// The highest number that a priority may have.
+const LOWEST_PRIORITY: u32 = 255;
+
+impl TaskPart {
+    /// `OS_TaskCreate`: makes a task that runs the body of that number, and gives its identifier.
+    ///
+    /// It takes no memory; the search for the name and for a free slot costs at most the capacity each.
+    pub fn task_create(
+        &mut self,
+        _alloc: Global,
+        _task: OsalId,
+        _now: Moment,
+        name: &Bytes,
+        body: u32,
+        stack: u32,
+        priority: u32,
+        room: &mut Room,
+    ) -> Result<Ack, OutOfMemory>
+        ensures step { IfOk result (λ ack. (replied ack room.new, self.new)
+            ≡ task_create_step self.old name.now.bytes body stack priority) }
+        ensures memory { IsOk result }
+    {
+        room.clear();
+        let name = match Name::new(name.as_slice()) {
+            Ok(name) => name,
+            Err(fault) => return Ok(Ack::refused(status_of_name(fault))),
+        };
+        if priority > LOWEST_PRIORITY {
+            return Ok(Ack::refused(Status::ErrInvalidPriority));
+        }
+        let made = Task {
+            body,
+            stack,
+            priority,
+            marked: false,
+        };
+        Ok(self.objects.create(name, made))
+    }
+
+    /// `OS_TaskExit`: removes the calling task, unless somebody holds it. It takes no memory.
+    pub fn task_exit(
+        &mut self,
+        _alloc: Global,
+        task: OsalId,
+        _now: Moment,
+        room: &mut Room,
+    ) -> Result<Ack, OutOfMemory>
+        ensures step { IfOk result (λ ack. (replied ack room.new, self.new) ≡ task_exit_step self.old task) }
+        ensures memory { IsOk result }
+    {
+        room.clear();
+        Ok(self.objects.delete(task))
+    }
+
+    /// `OS_TaskDelete`: marks a task that nobody holds; it is removed at its next checkpoint.
+    pub fn task_delete(
+        &mut self,
+        _alloc: Global,
+        _task: OsalId,
+        _now: Moment,
+        id: OsalId,
+        room: &mut Room,
+    ) -> Result<Ack, OutOfMemory>
+        ensures step { IfOk result (λ ack. (replied ack room.new, self.new) ≡ task_delete_step self.old id) }
+        ensures memory { IsOk result }
+    {
+        room.clear();
+        let task = match self.objects.lookup(id) {
+            Ok(task) => *task,
+            Err(_) => return Ok(Ack::refused(Status::ErrInvalidId)),
+        };
+        if task.marked {
+            return Ok(Ack::refused(Status::ErrIncorrectObjState));
+        }
+        if self.objects.is_held(id) {
+            return Ok(Ack::refused(Status::ErrObjectInUse));
+        }
+        self.objects.put(
+            id,
+            Task {
+                marked: true,
+                ..task
+            },
+        );
+        Ok(Ack::success())
+    }
+
+    /// `OS_TaskSetPriority`: the priority is reported and steers nothing.
+    pub fn task_set_priority(
+        &mut self,
+        _alloc: Global,
+        _task: OsalId,
+        _now: Moment,
+        id: OsalId,
+        priority: u32,
+        room: &mut Room,
+    ) -> Result<Ack, OutOfMemory>
+        ensures step { IfOk result (λ ack. (replied ack room.new, self.new)
+            ≡ task_set_priority_step self.old id priority) }
+        ensures memory { IsOk result }
+    {
+        room.clear();
+        if priority > LOWEST_PRIORITY {
+            return Ok(Ack::refused(Status::ErrInvalidPriority));
+        }
+        let task = match self.objects.lookup(id) {
+            Ok(task) => *task,
+            Err(_) => return Ok(Ack::refused(Status::ErrInvalidId)),
+        };
+        self.objects.put(id, Task { priority, ..task });
+        Ok(Ack::success())
+    }
+
+    /// `OS_TaskGetIdByName`: gives the identifier of a task. It looks at each slot at most.
+    pub fn task_find(
+        &mut self,
+        _alloc: Global,
+        _task: OsalId,
+        _now: Moment,
+        name: &Bytes,
+        room: &mut Room,
+    ) -> Result<Ack, OutOfMemory>
+        ensures step { IfOk result (λ ack. (replied ack room.new, self.new) ≡ task_find_step self.old name.now.bytes) }
+        ensures memory { IsOk result }
+    {
+        room.clear();
+        Ok(self.objects.find(name.as_slice()))
+    }
+
+    /// `OS_TaskGetInfo`: gives the stack size times 256 plus the priority, and the name.
+    pub fn task_info(
+        &mut self,
+        _alloc: Global,
+        _task: OsalId,
+        _now: Moment,
+        id: OsalId,
+        room: &mut Room,
+    ) -> Result<Ack, OutOfMemory>
+        ensures step { IfOk result (λ ack. (replied ack room.new, self.new) ≡ task_info_step self.old id) }
+        ensures memory { IsOk result }
+    {
+        room.clear();
+        let sizes = match self.objects.lookup(id) {
+            Ok(task) => task.sizes(),
+            Err(_) => return Ok(Ack::refused(Status::ErrInvalidId)),
+        };
+        if let Ok(Some(name)) = self.objects.name_of(id) {
+            room.append(name.as_slice());
+        }
+        Ok(Ack::gives(sizes))
+    }
+
+    /// Tells the calling task whether it goes on, and removes it where it was deleted. It takes no memory.
+    pub fn checkpoint(
+        &mut self,
+        _alloc: Global,
+        task: OsalId,
+        _now: Moment,
+        room: &mut Room,
+    ) -> Result<Ack, OutOfMemory>
+        ensures step { IfOk result (λ ack. (replied ack room.new, self.new) ≡ checkpoint_step self.old task) }
+        ensures memory { IsOk result }
+    {
+        room.clear();
+        let marked = match self.objects.lookup(task) {
+            Ok(task) => task.marked,
+            Err(_) => return Ok(Ack::refused(Status::ErrInvalidId)),
+        };
+        if !marked {
+            return Ok(Ack::goes_on());
+        }
+        let _removed = self.objects.delete(task);
+        Ok(Ack::deleted())
+    }
+}
