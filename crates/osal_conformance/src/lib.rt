@@ -7,3 +7,5 @@ mod faults;
 mod fixture;
 #[cfg(test)]
 mod rows;
+#[cfg(test)]
+mod several;

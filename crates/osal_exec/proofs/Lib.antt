@@ -1,3 +1,9 @@
-pub mod Active
-pub mod First
-pub mod Turns
+pub mod Slots
+pub mod Kept
+pub mod Allowed
+pub mod Begun
+pub mod Driven
+pub mod Taking
+pub mod Going
+pub mod Settling
+pub mod Beginning

@@ -1,69 +1,84 @@
 -- What a driver has done so far.
-use Rattle.std.specs.Prelude.{◌≡◌, ◌<◌, ◌+◌, ◌*◌, ◌++◌, List, [], ◌∷◌, ℕ, true, length}
+use Rattle.std.specs.Prelude.{◌≡◌, ◌<◌, ◌≤◌, ◌+◌, ◌++◌, ◌⊎◌, List, [], ◌∷◌, ℕ, Bool, true, false, Option, Some, length}
 use Rattle.osal_base.specs.Limits.{version1}
 use Rattle.osal_base.specs.Reply.{reply_of}
-use Rattle.osal_task.specs.Tasks.{goes}
 use Rattle.osal_machine.specs.declared.call.Call.{Call}
 use Rattle.osal_machine.specs.declared.call.Entry.{Entry}
 use Rattle.osal_machine.specs.Step.{MachineState, step}
-use Rattle.osal_machine.specs.History.{IsLegal, replay}
-use Rattle.osal_script.specs.declared.cursor.Phase.{Phase}
-use Rattle.osal_script.specs.declared.cursor.Phase.TheVariants as phase
-use Rattle.osal_script.specs.App.{ScriptBody}
-use Rattle.osal_script.specs.Script.{ScriptState, start_of, after, reached}
-use Rattle.osal_script.specs.Runs.{main_id, FollowsBody, EndsBody}
+use Rattle.osal_machine.specs.Journal.{Entries}
+use Rattle.osal_machine.specs.History.{replay}
+use Rattle.osal_script.specs.App.{Application, NamesLater}
+use Rattle.osal_script.specs.Cost.{cost_of}
+use Rattle.osal_script.specs.Segments.{begun, segments_of}
+use Rattle.osal_script.specs.Linked.{newest_script, is_leaving, is_creation}
+use Rattle.osal_script.specs.Runs.{IsRun}
+use Rattle.osal_script.specs.UnderWay.{IsUnderWay}
+use Rattle.osal_exec.specs.Running.{Running, runner_at, AreRunning, with_entry, with_begun}
 
--- an entry that a call made, with the reply and the state that its step gives
-pub record MakesEntry (caller task : ℕ) (call : Call) (before after : MachineState) (entry : Entry) : Type 0 where
+-- an entry that a call made at the moment, with the reply and the state that its step gives
+pub record MakesEntry (caller task : ℕ) (made : Call) (before after : MachineState) (entry : Entry) : Type 0 where
   pub by_caller : entry.caller ≡ caller
   pub of_task : entry.task ≡ task
-  pub at_start : entry.now.ms ≡ 0
-  pub of_call : entry.call ≡ call
-  pub replied : reply_of entry.reply ≡ (step before task entry.now call).0
-  pub left : after ≡ (step before task entry.now call).1
+  pub at_moment : entry.now ≡ before.time.moment
+  pub of_call : entry.call ≡ made
+  pub replied : reply_of entry.reply ≡ (step before task before.time.moment made).0
+  pub left : after ≡ (step before task before.time.moment made).1
+
+-- a journal with one more entry, which took one place of its room
+pub record IsPushed (old new : Entries) (entry : Entry) : Type 0 where
+  pub entries : new.entries ≡ old.entries ++ entry ∷ []
+  pub spare : new.spare + 1 ≡ old.spare
 
 -- the call added one entry to the journal
-abbrev pub AddsEntry : ℕ → ℕ → Call → MachineState → MachineState → List Entry → List Entry → Type 0
-AddsEntry caller task call before after old new =
-    (entry : Entry) × (new ≡ old ++ entry ∷ []) × MakesEntry caller task call before after entry
+abbrev pub AddsEntry : ℕ → ℕ → Call → MachineState → MachineState → Entries → Entries → Type 0
+AddsEntry caller task made before after old new =
+    (entry : Entry) × IsPushed old new entry × MakesEntry caller task made before after entry
 
--- how far the first task's script has come in a journal
-abbrev pub main_state : ScriptBody → List Entry → ScriptState
-main_state body [] = start_of body
-main_state body (first ∷ entries) = reached (start_of body) entries
+-- how far a driver has come: the journal so far, the machine, and the tasks whose scripts run
+pub record Drive : Type 0 where
+  pub journal : Entries
+  pub state : MachineState
+  pub runners : List (Option Running)
 
--- a task whose script has not ended is active and not marked for deletion
-abbrev pub IsRunning : Phase → MachineState → Type 0
-IsRunning phase.Before state = goes state.tasks main_id ≡ true
-IsRunning phase.At state = goes state.tasks main_id ≡ true
-IsRunning phase.Ended state = Unit {0}
+-- the same by its parts
+abbrev pub drive_of : Entries → MachineState → List (Option Running) → Drive
+drive_of journal state runners = record { journal = journal; state = state; runners = runners }
 
--- the journal so far is a legal history that follows the body, and the machine and the cursor are where it leads
-pub record IsDriving (body : ScriptBody) (entries : List Entry) (state : MachineState) (script : ScriptState) : Type 0 where
-  pub legal : IsLegal version1 entries
-  pub replayed : state ≡ replay version1 entries
-  pub follows : FollowsBody body entries
-  pub begun : 0 < length entries
-  pub reached : script ≡ main_state body entries
-  pub running : IsRunning script.phase state
+-- the journal so far is a front of a run with room for the rest, and the machine and the runners are where it leads
+pub record IsDriven (app : Application) (drive : Drive) : Type 0 where
+  pub later : NamesLater app
+  pub way : IsUnderWay app drive.journal.entries
+  pub room : cost_of app ≤ length drive.journal.entries + drive.journal.spare
+  pub replayed : drive.state ≡ replay version1 drive.journal.entries
+  pub running : AreRunning (segments_of app drive.journal.entries) drive.runners
 
--- how many calls a script may still make
-abbrev pub calls_left : Phase → ℕ → ℕ
-calls_left phase.Before lines = 2 * lines + 2
-calls_left phase.At lines = 2 * lines + 1
-calls_left phase.Ended lines = 0
+-- no script of a journal gives a wait up: each that began to has done so
+abbrev pub IsCalm : Application → List Entry → Type 0
+IsCalm app entries = (task : ℕ) → is_leaving (newest_script (segments_of app entries) task).phase ≡ false
 
--- the script has gone past the call of the last entry
-abbrev pub FollowsLast : List Entry → ScriptState → ScriptState → Type 0
-FollowsLast entries old new =
-    (before : List Entry) (last : Entry) → entries ≡ before ++ last ∷ [] → new ≡ after old (reply_of last.reply)
+-- a driver that may go on with any task
+pub record IsSteady (app : Application) (drive : Drive) : Type 0 where
+  pub driven : IsDriven app drive
+  pub calm : IsCalm app drive.journal.entries
 
--- a legal history that follows the body, as far as it goes
-pub record IsPartDriven (body : ScriptBody) (entries : List Entry) : Type 0 where
-  pub legal : IsLegal version1 entries
-  pub follows : FollowsBody body entries
+-- a task may be created only where no script gives a wait up
+abbrev pub MayCreate : Application → List Entry → Call → Type 0
+MayCreate app entries made = is_creation made ≡ true → IsCalm app entries
 
--- the same, with the script at its end
-pub record IsDriven (body : ScriptBody) (entries : List Entry) : Type 0 where
-  pub part : IsPartDriven body entries
-  pub ends : EndsBody body entries
+-- the call of the task in a slot added an entry, by which its script went on and the task that it makes began
+pub record Takes (app : Application) (slot : ℕ) (made : Call) (old new : Drive) : Type 0 where
+  pub entry : Entry
+  pub runner : Running
+  pub own : runner_at old.runners slot ≡ Some runner
+  pub pushed : IsPushed old.journal new.journal entry
+  pub makes : MakesEntry (slot + 1) runner.id made old.state new.state entry
+  pub runners : new.runners ≡ with_begun (with_entry old.runners slot entry) (begun app entry)
+
+-- the journal has grown since, or all is as it was and the fact holds
+abbrev pub Since : Drive → Drive → Type 0 → Type 0
+Since old new P = (length old.journal.entries < length new.journal.entries) ⊎ ((new ≡ old) × P)
+
+-- what a turn of a driver leaves: a driver that has gone on, or a run
+abbrev pub HasTurned : Application → Drive → Drive → Bool → Type 0
+HasTurned app old new true = IsSteady app new × (length old.journal.entries < length new.journal.entries)
+HasTurned app old new false = IsRun app new.journal.entries

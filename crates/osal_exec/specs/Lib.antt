@@ -1,4 +1,5 @@
 pub use Rattle.osal_script.specs.App
 pub use Rattle.osal_script.specs.Script
 pub use Rattle.osal_script.specs.Runs
+pub mod Running
 pub mod Driving

@@ -3,6 +3,8 @@
 
 mod driver;
 mod gates;
+mod runners;
+mod stage;
 
 pub use driver::{Outcome, drive};
 pub use gates::{FreeGate, Gate};

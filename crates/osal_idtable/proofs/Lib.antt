@@ -1,4 +1,5 @@
 pub mod Course
+pub mod Deadlines
 pub mod Keyed
 pub mod Placed
 pub mod Lone

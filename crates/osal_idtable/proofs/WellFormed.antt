@@ -218,7 +218,8 @@ after_small : (capacity : ℕ) (place : Place) → IsCapacity capacity → (afte
 after_small capacity place room =
     cond_both (nat_lt (place.serial + 1) 65535) _ _ (λ (p : Place). p.serial < 65536) (λ t. grind (arith, nat_tests)) (λ t. omega arith)
 
-small : (free : Place → Bool) (capacity n : ℕ) (place found : Place) → IsCapacity capacity → find free (candidates capacity n place) ≡ Some found → found.serial < 65536
+-- a place that is found has a serial of 16 bits
+pub small : (free : Place → Bool) (capacity n : ℕ) (place found : Place) → IsCapacity capacity → find free (candidates capacity n place) ≡ Some found → found.serial < 65536
 small free capacity zero place found room is = cc
 small free capacity (suc n) place found room is =
     let next = after_small capacity place room in

@@ -18,6 +18,7 @@ pub mod Lends
 pub mod Faults
 pub mod Standing
 pub mod Waits
+pub mod Deadlines
 pub mod Objects
 pub mod Waiting
 pub mod Moves

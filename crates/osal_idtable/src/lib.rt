@@ -19,4 +19,4 @@ pub use objects::Objects;
 pub use standing::Standing;
 pub use table::{IdFault, ReserveFault, Table};
 pub use token::Token;
-pub use waits::WaitRecord;
+pub use waits::{WaitRecord, sooner};

@@ -3,6 +3,7 @@ ghost use Rattle.std.specs.Prelude.{◌≡◌, ◌<◌, ◌≤◌, length, not, 
 ghost use Rattle.std.specs.Vec.{vec_capacity};
 ghost use Rattle.osal_base.specs.Limits.{IsCapacity};
 ghost use Rattle.osal_idtable.specs.Waits.{no_waits, new_wait, is_of, wait_of, is_due, stands_on, waits_on, wait_fault, with_wait, without_wait, released_if, released_where};
+ghost use Rattle.osal_idtable.specs.Deadlines.{deadline_above, deadlines_in, least, sooner};
 
 use crate::Standing;
 use osal_base::{Moment, OsalId, OutOfMemory, Status, Timeout};
@@ -43,6 +44,16 @@ impl<W> WaitRecord<W> {
         ensures { result ≡ is_due self.now now }
     {
         now.has_reached(self.deadline)
+    }
+
+    /// Its deadline in milliseconds, if that lies behind a moment.
+    fn deadline_above(&self, now: Moment) -> Option<u64>
+        ensures { result ≡ least (deadline_above now self.now.deadline) }
+    {
+        match self.deadline {
+            Some(deadline) if now.ms < deadline.ms => Some(deadline.ms),
+            _ => None,
+        }
     }
 
     /// Whether it stands on an object.
@@ -139,6 +150,17 @@ impl<W> Waits<W> {
         }
         count
     }
+
+    /// The least deadline behind a moment, in milliseconds, if there is one. It looks at each wait.
+    pub(crate) fn next_deadline(&self, now: Moment) -> Option<u64>
+        ensures { result ≡ least (deadlines_in now self.now.records) }
+    {
+        let mut next = None;
+        for wait in &self.records {
+            next = sooner(next, wait.deadline_above(now));
+        }
+        next
+    }
 }
 
 impl<W: Drop> Waits<W> {
@@ -172,5 +194,16 @@ fn release_all_on<W>(waits: &mut [WaitRecord<W>], id: OsalId)
 {
     for wait in waits.iter_mut() {
         wait.release_on(id);
+    }
+}
+
+/// The lesser of two numbers that may be there.
+pub fn sooner(first: Option<u64>, second: Option<u64>) -> Option<u64>
+    ensures { result ≡ sooner first second }
+{
+    match (first, second) {
+        (Some(first), Some(second)) => Some(first.min(second)),
+        (Some(first), None) => Some(first),
+        (None, second) => second,
     }
 }

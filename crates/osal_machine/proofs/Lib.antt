@@ -1,3 +1,4 @@
+pub mod Deadlines
 pub mod Histories
 pub mod Own
 pub mod Alone

@@ -6,6 +6,7 @@ pub mod Call
 pub mod Time
 pub mod Parts
 pub mod Step
+pub mod Deadlines
 pub mod Views
 pub mod AnyPart
 pub mod Journal

@@ -4,12 +4,14 @@ ghost use Rattle.osal_base.specs.Limits.{Fits};
 ghost use Rattle.osal_base.specs.Reply.{replied};
 ghost use Rattle.osal_task.specs.Tasks.{goes};
 ghost use Rattle.osal_machine.specs.Step.{opening, step, is_ready, is_active};
+ghost use Rattle.osal_machine.specs.Deadlines.{next_deadline};
 ghost use Rattle.osal_machine.specs.Views.{All};
 
 use crate::call::part_of_id;
 use crate::parts::absent;
 use crate::{Call, Part, TimePart, part_of};
 use osal_base::{Ack, Limits, Moment, OsalId, OutOfMemory, Room};
+use osal_idtable::sooner;
 use osal_sem::BinSemPart;
 use osal_task::TaskPart;
 use std::alloc::Global;
@@ -107,6 +109,17 @@ impl Whole {
         ensures { result ≡ self.now.time.moment }
     {
         self.time.moment()
+    }
+
+    /// The least deadline of an open wait behind the moment, in milliseconds, if there is one. It looks at each wait.
+    pub fn next_deadline(&self) -> Option<u64>
+        ensures { result ≡ next_deadline self.now }
+    {
+        let now = self.moment();
+        sooner(
+            self.tasks.next_deadline(now),
+            self.bin_sems.next_deadline(now),
+        )
     }
 }
 

@@ -1,4 +1,11 @@
-pub mod Told
+pub mod Pushed
+pub mod Places
+pub mod Drafted
+pub mod Totals
+pub mod Chain
+pub mod Ended
+pub mod Reading
+pub mod Waits
+pub mod Statuses
 pub mod Spelled
-pub mod Main
 pub mod Worked

@@ -1,7 +1,9 @@
 -- Texts that were worked out by hand: the definitions give them.
 use Rattle.std.proofs.Common.{◌≡◌, [], ◌∷◌, refl}
 use Rattle.std.specs.Prelude.{codes, negsuc}
+use Rattle.std.specs.Fmt.{digits}
 use Rattle.osal_report.specs.Spelling.{id_text, code_text, quoted}
+use Rattle.osal_report.specs.Report.{stall_line, segment_name, counts_text, end_text}
 
 -- an identifier has eight digits in lower case
 pub id_of_main : id_text 65537 ≡ codes "0x00010001"
@@ -22,3 +24,13 @@ code_of_timeout = refl
 pub quoted_bytes : quoted (97 ∷ 34 ∷ 92 ∷ 0 ∷ 255 ∷ []) ≡ codes "\"a\\\"\\\\\\x00\\xff\""
 unfolding quoted
 quoted_bytes = refl
+
+-- the line that waits stands before the last line of its segment
+pub line_that_waits : stall_line 6 (codes "bin_sem_take") ≡ codes "[STALL] line 6 bin_sem_take\n"
+unfolding stall_line digits
+line_that_waits = refl
+
+-- the last line of a segment tells how its task ended, and counts
+pub last_line : end_text 65538 (codes "w") (codes " STALLED") 10 0 ≡ codes "[  END] 0x00010002 w STALLED PASS 10 FAIL 0\n"
+unfolding end_text segment_name counts_text id_text digits
+last_line = refl

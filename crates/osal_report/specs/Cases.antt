@@ -1,13 +1,13 @@
 -- The cases of a segment: the lines with an expectation that were answered, and whether they pass.
-use Rattle.std.specs.Borrow.{Bor}
-use Rattle.std.specs.Prelude.{◌≡◌, ◌==◌, ◌&&◌, ◌+◌, ◌^◌, ◌++◌, List, [], ◌∷◌, ℕ, Bool, true, false, Option, Some, None, codes, nat_lt, if◌then◌else◌}
+use Rattle.std.specs.Prelude.{◌==◌, ◌&&◌, ◌+◌, ◌^◌, ◌++◌, List, [], ◌∷◌, ℕ, Bool, true, false, Option, Some, None, codes, nat_lt, is_some, if◌then◌else◌}
 use Rattle.std.specs.Fmt.{decimal}
 use Rattle.std.specs.Ordering.{int_eq}
 use Rattle.std.specs.Str.{bytes_eq}
 use Rattle.std.proofs.Common.{ℤ}
 use Rattle.osal_base.specs.declared.reply.Answer.{Answer}
 use Rattle.osal_base.specs.declared.reply.Answer.TheVariants as answer
-use Rattle.osal_base.specs.Reply.{Replied, reply_of}
+use Rattle.osal_base.specs.Reply.{Replied, reply_of, is_waits}
+use Rattle.osal_machine.specs.declared.call.Call.{Call}
 use Rattle.osal_machine.specs.declared.call.Entry.{Entry}
 use Rattle.osal_script.specs.declared.app.ScriptCall.{ScriptCall}
 use Rattle.osal_script.specs.declared.app.ScriptCall.TheVariants as script
@@ -15,32 +15,35 @@ use Rattle.osal_script.specs.declared.app.Line.{Line}
 use Rattle.osal_script.specs.declared.app.Expect.{Expect}
 use Rattle.osal_script.specs.declared.app.Value.{Value}
 use Rattle.osal_script.specs.declared.app.Value.TheVariants as value
-use Rattle.osal_script.specs.declared.cursor.Phase.{Phase}
-use Rattle.osal_script.specs.declared.cursor.Phase.TheVariants as phase
-use Rattle.osal_script.specs.Script.{ScriptState, after}
+use Rattle.osal_script.specs.declared.phase.Phase.{Phase}
+use Rattle.osal_script.specs.declared.phase.Phase.TheVariants as phase
+use Rattle.osal_script.specs.Calls.{register_of}
+use Rattle.osal_script.specs.Script.{Pending, ScriptState, start_of, is_checkpoint, after_entry}
+use Rattle.osal_script.specs.Segments.{Segment}
 use Rattle.osal_report.specs.Spelling.{id_text, code_text, answer_text, quoted}
 
 -- the name of a call as a line writes it
 abbrev pub call_name : ScriptCall → List ℕ
+call_name (script.TaskCreate register name body stack priority) = codes "task_create"
+call_name script.TaskExit = codes "task_exit"
+call_name (script.TaskDelete id) = codes "task_delete"
+call_name (script.TaskSetPriority id priority) = codes "task_set_priority"
+call_name (script.TaskFind register name) = codes "task_find"
+call_name (script.TaskInfo id) = codes "task_info"
+call_name (script.TaskDelay ms) = codes "task_delay"
 call_name (script.BinSemCreate register name initial) = codes "bin_sem_create"
-call_name (script.BinSemTake id) = codes "bin_sem_take"
 call_name (script.BinSemGive id) = codes "bin_sem_give"
+call_name (script.BinSemFlush id) = codes "bin_sem_flush"
+call_name (script.BinSemTake id wait) = codes "bin_sem_take"
 call_name (script.BinSemDelete id) = codes "bin_sem_delete"
 call_name (script.BinSemFind register name) = codes "bin_sem_find"
 call_name (script.BinSemInfo id) = codes "bin_sem_info"
 call_name (script.Hold id) = codes "hold"
 call_name (script.Release id) = codes "release"
 
--- whether a call gives an identifier
+-- whether a call gives an identifier: those that set a register do
 abbrev pub gives_id : ScriptCall → Bool
-gives_id (script.BinSemCreate register name initial) = true
-gives_id (script.BinSemTake id) = false
-gives_id (script.BinSemGive id) = false
-gives_id (script.BinSemDelete id) = false
-gives_id (script.BinSemFind register name) = true
-gives_id (script.BinSemInfo id) = false
-gives_id (script.Hold id) = false
-gives_id (script.Release id) = false
+gives_id call = is_some (register_of call)
 
 -- a number as a call's line spells it: an identifier's text where the call gives one
 abbrev pub number_text : ScriptCall → ℕ → List ℕ
@@ -122,28 +125,35 @@ case_of line None reply = []
 case_of line (Some expect) reply = record { line = line; expect = expect; reply = reply } ∷ []
 
 -- the case of the line that comes next
-abbrev pub case_of_lines : List Line → Replied → List Case
-case_of_lines [] reply = []
-case_of_lines (line ∷ lines) reply = case_of line line.expect reply
+abbrev pub case_of_next : List Pending → Replied → List Case
+case_of_next [] reply = []
+case_of_next (next ∷ pending) reply = case_of next.line next.line.expect reply
 
--- the case that a reply makes in a phase: checkpoints make none
-abbrev pub case_in : Phase → List Line → Replied → List Case
-case_in phase.Before lines reply = []
-case_in phase.At lines reply = case_of_lines lines reply
-case_in phase.Ended lines reply = []
+-- the case of a line that was answered: one that waits is not answered yet
+abbrev pub case_at_line : List Pending → Replied → List Case
+case_at_line pending reply = if is_waits reply.answer then [] else case_of_next pending reply
+
+-- the case of a wait that ended: a checkpoint in a wait is no answer
+abbrev pub case_at_end : Call → List Pending → Replied → List Case
+case_at_end made pending reply = if is_checkpoint made then [] else case_of_next pending reply
+
+-- the case that a call makes in a phase: checkpoints make none, nor does a wait that is given up
+abbrev pub case_in : Phase → List Pending → Call → Replied → List Case
+case_in phase.Before pending made reply = []
+case_in phase.At pending made reply = case_at_line pending reply
+case_in (phase.Waiting part) pending made reply = case_at_end made pending reply
+case_in (phase.Leaving part) pending made reply = []
+case_in phase.Ended pending made reply = []
+
+-- the case that an entry makes
+abbrev pub case_by : ScriptState → Entry → List Case
+case_by state entry = case_in state.phase state.pending entry.call (reply_of entry.reply)
 
 -- the cases of a script's entries, in order
 abbrev pub cases_from : ScriptState → List Entry → List Case
 cases_from state [] = []
-cases_from state (entry ∷ entries) =
-    case_in state.phase state.lines (reply_of entry.reply)
-    ++ cases_from (after state (reply_of entry.reply)) entries
+cases_from state (entry ∷ entries) = case_by state entry ++ cases_from (after_entry state entry) entries
 
--- the case of a line and its expectation, where both are there
-abbrev pub case_list : Option (Bor Line × Bor Expect) → Replied → List Case
-case_list None reply = []
-case_list (Some found) reply = record { line = found.0.now; expect = found.1.now; reply = reply } ∷ []
-
--- this line and expectation make the case of the next reply, whatever it is
-abbrev pub IsCaseAt : Phase → List Line → Option (Bor Line × Bor Expect) → Type 0
-IsCaseAt phase lines found = (reply : Replied) → case_in phase lines reply ≡ case_list found reply
+-- the cases of a segment
+abbrev pub cases_of : Segment → List Case
+cases_of segment = cases_from (start_of segment.body) segment.entries

@@ -4,3 +4,6 @@ pub use Rattle.osal_script.specs.Runs
 pub mod Spelling
 pub mod Cases
 pub mod Report
+pub mod Draft
+pub mod Ends
+pub mod Status

@@ -1,15 +1,16 @@
--- The report of a journal, and its status.
-use Rattle.std.specs.Prelude.{◌==◌, ◌-◌, ◌++◌, Option, Some, None, length, slice_get, List, [], ◌∷◌, ℕ, Bool, true, false, codes, if◌then◌else◌}
+-- The report of a journal.
+use Rattle.std.specs.Prelude.{◌++◌, ◌+◌, Option, Some, None, length, slice_get, ◌-◌, List, [], ◌∷◌, ℕ, Bool, true, false, codes, if◌then◌else◌}
 use Rattle.std.specs.Fmt.{decimal}
 use Rattle.osal_machine.specs.declared.call.Call.{Call}
 use Rattle.osal_machine.specs.declared.call.Call.TheVariants as call
 use Rattle.osal_machine.specs.declared.call.Entry.{Entry}
-use Rattle.osal_script.specs.declared.cursor.Phase.{Phase}
-use Rattle.osal_script.specs.declared.cursor.Phase.TheVariants as phase
-use Rattle.osal_script.specs.App.{ScriptBody}
-use Rattle.osal_script.specs.Script.{start_of, reached}
+use Rattle.osal_script.specs.declared.phase.Phase.{Phase}
+use Rattle.osal_script.specs.declared.phase.Phase.TheVariants as phase
+use Rattle.osal_script.specs.App.{Application}
+use Rattle.osal_script.specs.Script.{Pending}
+use Rattle.osal_script.specs.Segments.{Segment, script_in, segments_of}
 use Rattle.osal_report.specs.Spelling.{id_text}
-use Rattle.osal_report.specs.Cases.{Case, cases_from, cases_text, passed, failed}
+use Rattle.osal_report.specs.Cases.{call_name, cases_of, cases_text, passed, failed}
 
 -- whether a call is the exit of a task
 abbrev pub is_exit : Call → Bool
@@ -25,22 +26,40 @@ is_exit_entry (Some entry) = is_exit entry.call
 abbrev pub ends_in_exit : List Entry → Bool
 ends_in_exit entries = is_exit_entry (slice_get entries (length entries - 1))
 
+-- whether a script that has come to this phase has an open wait
+abbrev pub is_stalled : Phase → Bool
+is_stalled phase.Before = false
+is_stalled phase.At = false
+is_stalled (phase.Waiting part) = true
+is_stalled (phase.Leaving part) = true
+is_stalled phase.Ended = false
+
 -- how a script that has come to this phase ended
 abbrev pub how_by_phase : Phase → List ℕ
-how_by_phase phase.Ended = codes " DELETED"
 how_by_phase phase.Before = codes " CUT"
 how_by_phase phase.At = codes " CUT"
+how_by_phase (phase.Waiting part) = codes " STALLED"
+how_by_phase (phase.Leaving part) = codes " STALLED"
+how_by_phase phase.Ended = codes " DELETED"
 
--- how a task ended: by its exit, by a deletion, or not at all
-abbrev pub how_text : ScriptBody → List Entry → List ℕ
-how_text body entries =
-    if ends_in_exit entries then codes " DONE"
-    else how_by_phase (reached (start_of body) entries).phase
+-- how a task ended: by its exit, by a deletion, in a wait, or not at all
+abbrev pub how_text : Segment → List ℕ
+how_text segment =
+    if ends_in_exit segment.entries then codes " DONE" else how_by_phase (script_in segment).phase
 
--- the name under which a task is created
-abbrev pub created_name : Call → List ℕ
-created_name (call.TaskCreate name body stack priority) = name.bytes
-created_name other = []
+-- the line of a wait that is open
+unfoldable pub stall_line : ℕ → List ℕ → List ℕ
+stall_line number name = codes "[STALL] line " ++ (decimal number ++ (32 ∷ [] ++ (name ++ 10 ∷ [])))
+
+-- the same, for the line that comes next
+abbrev pub stall_of : List Pending → List ℕ
+stall_of [] = []
+stall_of (next ∷ pending) = stall_line next.line.number (call_name next.line.call)
+
+-- where a segment has an open wait, the line that waits
+abbrev pub stall_text : Segment → List ℕ
+stall_text segment =
+    if is_stalled (script_in segment).phase then stall_of (script_in segment).pending else []
 
 -- the counts at a line's end
 unfoldable pub counts_text : ℕ → ℕ → List ℕ
@@ -65,43 +84,34 @@ unfoldable pub total_text : ℕ → ℕ → ℕ → List ℕ
 total_text tasks pass fail =
     codes "[TOTAL] TASKS " ++ (decimal tasks ++ counts_text pass fail)
 
--- the segment of a task that was created by an entry, with the entries that it made
-abbrev pub segment_text : ScriptBody → Entry → List Entry → List Case → List ℕ
-segment_text body first entries cases =
-    begin_text first.reply.number (created_name first.call)
-    ++ (cases_text 1 cases
-    ++ end_text first.reply.number (created_name first.call) (how_text body entries)
-    (passed cases) (failed cases))
+-- a segment: its first line, its cases, the line that waits, and its last line
+abbrev pub segment_text : Segment → List ℕ
+segment_text segment =
+    begin_text segment.id segment.name
+    ++ (cases_text 1 (cases_of segment)
+    ++ (stall_text segment
+    ++ end_text segment.id segment.name (how_text segment) (passed (cases_of segment)) (failed (cases_of segment))))
 
--- the cases of the first task's entries
-abbrev pub main_cases : ScriptBody → List Entry → List Case
-main_cases body [] = []
-main_cases body (first ∷ entries) = cases_from (start_of body) entries
+-- some segments, in order
+abbrev pub segments_text : List Segment → List ℕ
+segments_text [] = []
+segments_text (segment ∷ segments) = segment_text segment ++ segments_text segments
 
--- the segments of a journal of one task: one, where the first entry has created it
-abbrev pub segments_text : ScriptBody → List Entry → List ℕ
-segments_text body [] = []
-segments_text body (first ∷ entries) =
-    segment_text body first entries (cases_from (start_of body) entries)
+-- how many cases of some segments pass
+abbrev pub all_passed : List Segment → ℕ
+all_passed [] = 0
+all_passed (segment ∷ segments) = passed (cases_of segment) + all_passed segments
 
--- how many tasks have a segment
-abbrev pub segment_count : List Entry → ℕ
-segment_count [] = 0
-segment_count (first ∷ entries) = 1
+-- how many do not
+abbrev pub all_failed : List Segment → ℕ
+all_failed [] = 0
+all_failed (segment ∷ segments) = failed (cases_of segment) + all_failed segments
 
--- the report by the first body
-abbrev pub report_of : ScriptBody → List Entry → List ℕ
-report_of body entries =
-    segments_text body entries
-    ++ total_text (segment_count entries)
-    (passed (main_cases body entries)) (failed (main_cases body entries))
+-- the report by its segments
+abbrev pub report_of : List Segment → List ℕ
+report_of segments =
+    segments_text segments ++ total_text (length segments) (all_passed segments) (all_failed segments)
 
 -- the report of a journal of the application
-abbrev pub report_text : List ScriptBody → List Entry → List ℕ
-report_text [] entries = []
-report_text (body ∷ bodies) entries = report_of body entries
-
--- the status by the first body: 1 where a case failed, else 0
-abbrev pub status_of : List ScriptBody → List Entry → ℕ
-status_of [] entries = 0
-status_of (body ∷ bodies) entries = if failed (main_cases body entries) == 0 then 0 else 1
+abbrev pub report_text : Application → List Entry → List ℕ
+report_text app entries = report_of (segments_of app entries)

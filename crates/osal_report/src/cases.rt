@@ -3,22 +3,29 @@ ghost use Rattle.std.specs.Prelude.{◌≡◌, ◌++◌, IfOk, OnOk, [], ◌∷�
 ghost use Rattle.std.specs.Fmt.{decimal};
 ghost use Rattle.osal_report.specs.Spelling.{code_text};
 ghost use Rattle.osal_base.specs.Reply.{reply_of};
-ghost use Rattle.osal_report.specs.Cases.{call_name as name_of_call, gives_id as gives, number_text, is_code as is_code_of, is_value as is_value_of, passes as passes_case, got_value, wanted_value, case_text, IsCaseAt};
+ghost use Rattle.osal_report.specs.Cases.{call_name as name_of_call, gives_id as gives, number_text, is_code as is_code_of, is_value as is_value_of, passes as passes_case, got_value, wanted_value, case_text};
 
 use crate::spelling::{push_answer, push_bytes, push_code, push_decimal, push_id, push_quoted};
 use osal_base::{Answer, OutOfMemory, Reply};
-use osal_machine::Entry;
-use osal_script::{Cursor, Expect, Line, Phase, ScriptCall, Value};
+use osal_script::{Expect, Line, ScriptCall, Value};
 use std::alloc::Global;
 
 /// The name of a call as a line writes it.
-fn call_name(call: &ScriptCall) -> &'static [u8]
+pub(crate) fn call_name(call: &ScriptCall) -> &'static [u8]
     ensures { result.now ≡ name_of_call call.now }
 {
     match call {
+        ScriptCall::TaskCreate { .. } => b"task_create",
+        ScriptCall::TaskExit => b"task_exit",
+        ScriptCall::TaskDelete { .. } => b"task_delete",
+        ScriptCall::TaskSetPriority { .. } => b"task_set_priority",
+        ScriptCall::TaskFind { .. } => b"task_find",
+        ScriptCall::TaskInfo { .. } => b"task_info",
+        ScriptCall::TaskDelay { .. } => b"task_delay",
         ScriptCall::BinSemCreate { .. } => b"bin_sem_create",
-        ScriptCall::BinSemTake { .. } => b"bin_sem_take",
         ScriptCall::BinSemGive { .. } => b"bin_sem_give",
+        ScriptCall::BinSemFlush { .. } => b"bin_sem_flush",
+        ScriptCall::BinSemTake { .. } => b"bin_sem_take",
         ScriptCall::BinSemDelete { .. } => b"bin_sem_delete",
         ScriptCall::BinSemFind { .. } => b"bin_sem_find",
         ScriptCall::BinSemInfo { .. } => b"bin_sem_info",
@@ -32,9 +39,18 @@ fn gives_id(call: &ScriptCall) -> bool
     ensures { result ≡ gives call.now }
 {
     match call {
-        ScriptCall::BinSemCreate { .. } | ScriptCall::BinSemFind { .. } => true,
-        ScriptCall::BinSemTake { .. }
+        ScriptCall::TaskCreate { .. }
+        | ScriptCall::TaskFind { .. }
+        | ScriptCall::BinSemCreate { .. }
+        | ScriptCall::BinSemFind { .. } => true,
+        ScriptCall::TaskExit
+        | ScriptCall::TaskDelete { .. }
+        | ScriptCall::TaskSetPriority { .. }
+        | ScriptCall::TaskInfo { .. }
+        | ScriptCall::TaskDelay { .. }
         | ScriptCall::BinSemGive { .. }
+        | ScriptCall::BinSemFlush { .. }
+        | ScriptCall::BinSemTake { .. }
         | ScriptCall::BinSemDelete { .. }
         | ScriptCall::BinSemInfo { .. }
         | ScriptCall::Hold { .. }
@@ -193,18 +209,4 @@ pub(crate) fn push_case(
     push_missed(alloc, out, line, expect, pass)?;
     push_bytes(out, b"\n")?;
     Ok(pass)
-}
-
-/// The line that an entry answers and what it expects, where the entry makes a case.
-pub(crate) fn case_at<'a>(cursor: &Cursor<'a>) -> Option<(&'a Line, &'a Expect)>
-    ensures { IsCaseAt cursor.now.phase cursor.now.lines result }
-{
-    if cursor.phase() != Phase::At {
-        return None;
-    }
-    let line = cursor.line()?;
-    match &line.expect {
-        Some(expect) => Some((line, expect)),
-        None => None,
-    }
 }

@@ -2,11 +2,16 @@
 #![tactic(auto)]
 
 mod cases;
+mod counts;
+mod draft;
+mod drafts;
+mod entry;
 mod segment;
 mod spelling;
+mod status;
 mod summary;
 #[cfg(test)]
 mod tests;
-mod walk;
 
-pub use summary::{report, status_of};
+pub use status::status_of;
+pub use summary::report;

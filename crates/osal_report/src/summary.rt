@@ -1,15 +1,46 @@
-//! The report of a journal, and its status.
+//! The report of a journal.
 ghost use Rattle.std.specs.Prelude.{◌≡◌, ◌++◌, IfOk, OnOk};
-ghost use Rattle.osal_report.specs.Report.{total_text, report_of, report_text, status_of as status_by};
+ghost use Rattle.std.specs.List.{AllByRecursion, flat_map, sum_by};
+ghost use Rattle.osal_report.specs.Report.{total_text, report_text};
+ghost use Rattle.osal_report.specs.Draft.{IsCounted, draft_text};
 
-use crate::segment::{push_counts, push_segment};
+use crate::counts::{Counts, push_counts};
+use crate::draft::Draft;
+use crate::drafts::drafts_of;
 use crate::spelling::{push_bytes, push_decimal};
-use crate::walk::{Counts, any_fails};
 use osal_base::{Bytes, OutOfMemory};
-use osal_machine::{Entry, Journal};
-use osal_script::{App, Body};
+use osal_machine::Journal;
+use osal_script::App;
 use std::alloc::Global;
 
+/// The room of the last line of a report.
+const TOTAL_ROOM: usize = 100;
+
+/// How much room a report takes, with some to spare.
+fn room_of(drafts: &[Draft]) -> usize {
+    let mut room = TOTAL_ROOM;
+    for draft in drafts {
+        room = room.saturating_add(draft.room());
+    }
+    room
+}
+
+/// Appends the segments' texts, and counts their cases.
+fn push_segments(alloc: Global, out: &mut Vec<u8>, drafts: &[Draft]) -> Result<Counts, OutOfMemory>
+    requires { AllByRecursion IsCounted drafts.now }
+    ensures text { OnOk result (out.new.items ≡ out.old.items ++ flat_map draft_text drafts.now) }
+    ensures pass { IfOk result (λ counts. counts.pass ≡ sum_by (λ draft. draft.pass) drafts.now) }
+    ensures fail { IfOk result (λ counts. counts.fail ≡ sum_by (λ draft. draft.fail) drafts.now) }
+{
+    let mut counts = Counts::NONE;
+    for draft in drafts {
+        draft.push_text(alloc, out)?;
+        counts = counts.plus(draft.counts());
+    }
+    Ok(counts)
+}
+
+/// Appends the last line of a report.
 #[tactic(auto, unfolding(crate::specs::Report::total_text))]
 fn push_total(
     alloc: Global,
@@ -26,46 +57,16 @@ fn push_total(
     Ok(())
 }
 
-fn push_report(
-    alloc: Global,
-    out: &mut Vec<u8>,
-    body: &Body,
-    entries: &[Entry],
-) -> Result<(), OutOfMemory>
-    ensures { OnOk result (out.new.items ≡ out.old.items ++ report_of body.now entries.now) }
-{
-    match entries.split_first() {
-        None => {
-            push_total(alloc, out, 0, Counts { pass: 0, fail: 0 })?;
-            Ok(())
-        }
-        Some((first, others)) => {
-            let counts = push_segment(alloc, out, body, first, others)?;
-            push_total(alloc, out, 1, counts)?;
-            Ok(())
-        }
-    }
-}
-
-/// The report: a segment for the first task, with a line for each case, and the totals.
+/// The report: a segment for each task that was created, with a line for each case, and the totals.
 ///
-/// It takes time in proportion to the journal and to its text.
+/// It reads the journal once, in time proportional to the journal and its text, times the logarithm of the number
+/// of tasks.
 pub fn report(alloc: Global, app: &App, journal: &Journal) -> Result<Bytes, OutOfMemory>
-    ensures { IfOk result (λ text. text.bytes ≡ report_text app.now.bodies journal.now.entries) }
+    ensures { IfOk result (λ text. text.bytes ≡ report_text app.now journal.now.entries) }
 {
-    let mut out = Vec::new(alloc);
-    push_report(alloc, &mut out, app.main(), journal.entries())?;
+    let drafts = drafts_of(alloc, app, journal.entries())?;
+    let mut out = Vec::with_capacity(alloc, room_of(drafts.as_slice()))?;
+    let counts = push_segments(alloc, &mut out, drafts.as_slice())?;
+    push_total(alloc, &mut out, drafts.len() as u64, counts)?;
     Ok(Bytes::from_vec(out))
-}
-
-/// The exit status: 1 where a case failed, else 0. It takes no memory.
-///
-/// It reads the journal up to the first case that failed.
-pub fn status_of(app: &App, journal: &Journal) -> u8
-    ensures { result ≡ status_by app.now.bodies journal.now.entries }
-{
-    match journal.entries().split_first() {
-        None => 0,
-        Some((_, others)) => u8::from(any_fails(app.main(), others)),
-    }
 }

@@ -1,4 +1,10 @@
-use crate::{report, status_of};
+ghost use Rattle.std.specs.Prelude.{◌≡◌, IfOk};
+ghost use Rattle.std.specs.List.{AllByRecursion};
+ghost use Rattle.osal_script.specs.App.{NamesBetween, ItemNames};
+ghost use Rattle.osal_script.specs.Nesting.{IsNested};
+
+use crate::report;
+use crate::status::end_of_all;
 use osal_base::{Answer, Bytes, Moment, Name, OsalId, OutOfMemory, Reply, Timeout};
 use osal_machine::{Call, Entry, Journal};
 use osal_script::{App, Body, BodyKind, Expect, Item, Line, Literal, Register, ScriptCall, Value};
@@ -8,6 +14,10 @@ use std::test::Fail;
 
 const SUCCESS: Answer = Answer::Code(0);
 
+const MAIN: u32 = 0x0001_0001;
+
+const OTHER: u32 = 0x0001_0002;
+
 fn expects(code: i32, value: Option<Value>) -> Option<Expect> {
     Some(Expect { code, value })
 }
@@ -16,29 +26,127 @@ fn text(alloc: Global, bytes: &[u8]) -> Result<Literal, OutOfMemory> {
     Ok(Literal::new(Bytes::copy(alloc, bytes)?))
 }
 
-/// Line 3: `bin_sem_create s "s" 1`.
-fn create(alloc: Global, expect: Option<Expect>) -> Result<Item, OutOfMemory> {
+/// `bin_sem_create s "s" 1`.
+fn create(alloc: Global, number: u32, expect: Option<Expect>) -> Result<Line, OutOfMemory>
+    ensures one { IfOk result (λ line. NamesBetween 0 1 line.call) }
+    ensures two { IfOk result (λ line. NamesBetween 0 2 line.call) }
+{
     let call = ScriptCall::BinSemCreate {
         register: Register::new(0),
         name: text(alloc, b"s")?,
         value: 1,
     };
-    Ok(Item::Call(Line {
-        number: 3,
+    Ok(Line {
+        number,
         call,
         expect,
-    }))
+    })
 }
 
-/// Line 4: `bin_sem_take s check`.
-fn take(expect: Option<Expect>) -> Item {
-    Item::Call(Line {
-        number: 4,
+/// `bin_sem_take s check`.
+fn take(number: u32, expect: Option<Expect>) -> Line
+    ensures one { NamesBetween 0 1 result.call }
+    ensures first { NamesBetween 0 2 result.call }
+    ensures second { NamesBetween 1 2 result.call }
+{
+    Line {
+        number,
         call: ScriptCall::BinSemTake {
             id: Register::new(0),
+            wait: Timeout::Check,
         },
         expect,
+    }
+}
+
+/// `task_create t "w" w 0 1`, where `w` is the second body.
+fn start(alloc: Global, number: u32, expect: Option<Expect>) -> Result<Line, OutOfMemory>
+    ensures { IfOk result (λ line. NamesBetween 0 2 line.call) }
+{
+    let call = ScriptCall::TaskCreate {
+        register: Register::new(1),
+        name: text(alloc, b"w")?,
+        body: 1,
+        stack: 0,
+        priority: 1,
+    };
+    Ok(Line {
+        number,
+        call,
+        expect,
     })
+}
+
+fn body<R: Abort>(rt: &R, name: &[u8], items: Vec<Item>) -> Body
+    requires { IsNested items.items }
+    ensures { result.items ≡ items.items }
+{
+    let name = Name::new(name).expect(rt, "a name");
+    Body::new(name, BodyKind::Task, items)
+}
+
+/// An application of one task, `main`.
+fn one_task<R: Abort + AllocGlobal>(rt: &R, items: Vec<Item>) -> Result<App, Fail>
+    requires nested { IsNested items.items }
+    requires later { AllByRecursion (ItemNames 0 1) items.items }
+{
+    let bodies = vec![in rt.alloc(); body(rt, b"main", items)]?;
+    Ok(App::new(bodies))
+}
+
+/// An application of two tasks, `main` and `w`.
+fn two_tasks<R: Abort + AllocGlobal>(rt: &R, main: Vec<Item>, other: Vec<Item>) -> Result<App, Fail>
+    requires main { IsNested main.items }
+    requires other { IsNested other.items }
+    requires main_later { AllByRecursion (ItemNames 0 2) main.items }
+    requires other_later { AllByRecursion (ItemNames 1 2) other.items }
+{
+    let bodies = vec![in rt.alloc(); body(rt, b"main", main), body(rt, b"w", other)]?;
+    Ok(App::new(bodies))
+}
+
+fn reply(alloc: Global, answer: Answer, number: u64) -> Reply {
+    Reply {
+        answer,
+        number,
+        bytes: Bytes::new(alloc),
+    }
+}
+
+/// One more entry of a task.
+fn add(journal: &mut Journal, task: u32, call: Call, reply: Reply) -> Result<(), OutOfMemory> {
+    journal.reserve(1)?;
+    journal.push(Entry {
+        caller: if task == 0 { 0 } else { 1 + task % 65536 % 64 },
+        task: OsalId::of_raw(task),
+        now: Moment::START,
+        call,
+        reply,
+    });
+    Ok(())
+}
+
+/// A call behind the checkpoint at which its task goes on.
+fn line(
+    alloc: Global,
+    journal: &mut Journal,
+    task: u32,
+    call: Call,
+    replied: Reply,
+) -> Result<(), OutOfMemory> {
+    let goes_on = reply(alloc, Answer::Go, 0);
+    add(journal, task, Call::Checkpoint, goes_on)?;
+    add(journal, task, call, replied)
+}
+
+fn exit(alloc: Global, journal: &mut Journal, task: u32) -> Result<(), OutOfMemory> {
+    line(
+        alloc,
+        journal,
+        task,
+        Call::TaskExit,
+        reply(alloc, SUCCESS, 0),
+    )
 }
 
 fn create_call(alloc: Global) -> Result<Call, OutOfMemory> {
@@ -55,68 +163,45 @@ fn take_call() -> Call {
     }
 }
 
-/// An application of one task, `main`.
-fn app<R: Abort + AllocGlobal>(rt: &R, items: Vec<Item>) -> Result<App, Fail> {
-    let name = Name::new(b"main").expect(rt, "a name");
-    let body = Body::new(name, BodyKind::Task, items);
-    let bodies = vec![in rt.alloc(); body]?;
-    Ok(App::new(bodies))
-}
-
-fn add(journal: &mut Journal, caller: u32, call: Call, reply: Reply) -> Result<(), OutOfMemory> {
-    journal.reserve(1)?;
-    journal.push(Entry {
-        caller,
-        task: OsalId::of_raw(if caller == 0 { 0 } else { 0x0001_0001 }),
-        now: Moment::START,
-        call,
-        reply,
-    });
-    Ok(())
-}
-
-fn answers(alloc: Global, answer: Answer, number: u64) -> Reply {
-    Reply {
-        answer,
-        number,
-        bytes: Bytes::new(alloc),
-    }
-}
-
-/// A journal whose first entry creates a task of that name.
-fn created(alloc: Global, name: &[u8]) -> Result<Journal, OutOfMemory> {
-    let mut journal = Journal::new(alloc);
-    let call = Call::TaskCreate {
+fn start_call(alloc: Global, name: &[u8], body: u32) -> Result<Call, OutOfMemory> {
+    Ok(Call::TaskCreate {
         name: Bytes::copy(alloc, name)?,
-        body: 0,
+        body,
         stack: 0,
         priority: 0,
-    };
-    add(&mut journal, 0, call, answers(alloc, SUCCESS, 65537))?;
+    })
+}
+
+/// A journal whose first entry creates the first task, under that name.
+fn begun(alloc: Global, name: &[u8]) -> Result<Journal, OutOfMemory> {
+    let mut journal = Journal::new(alloc);
+    let made = reply(alloc, SUCCESS, u64::from(MAIN));
+    add(&mut journal, 0, start_call(alloc, name, 0)?, made)?;
     Ok(journal)
 }
 
-fn go(alloc: Global, journal: &mut Journal) -> Result<(), OutOfMemory> {
-    add(journal, 2, Call::Checkpoint, answers(alloc, Answer::Go, 0))
-}
-
-/// A line behind its checkpoint.
-fn line(alloc: Global, journal: &mut Journal, call: Call, reply: Reply) -> Result<(), OutOfMemory> {
-    go(alloc, journal)?;
-    add(journal, 2, call, reply)
-}
-
-fn exit(alloc: Global, journal: &mut Journal) -> Result<(), OutOfMemory> {
-    line(alloc, journal, Call::TaskExit, answers(alloc, SUCCESS, 0))
+/// The report of a journal is this text, and its scripts end so.
+fn check<R: Abort + AllocGlobal + Eprint>(
+    rt: &R,
+    app: &App,
+    journal: &Journal,
+    want: &[u8],
+    end: (bool, bool),
+) -> Result<(), Fail> {
+    assert_eq!(rt; report(rt.alloc(), app, journal)?.as_slice(), want);
+    let ends = end_of_all(app, journal.entries());
+    assert_eq!(rt; (ends.stalled, ends.fails), end);
+    Ok(())
 }
 
 #[test]
 fn a_run_is_reported_line_by_line(rt: HostRuntime) -> Result<(), Fail> {
     let alloc = rt.alloc();
     let id = Some(Value::Number(0x0004_0001));
-    let items = vec![in alloc; create(alloc, expects(0, id))?, take(expects(0, None))]?;
-    let app = app(&rt, items)?;
-    let rows: [(i32, &[u8], u8); 2] = [
+    let made = Item::Call(create(alloc, 3, expects(0, id))?);
+    let items = vec![in alloc; made, Item::Call(take(4, expects(0, None)))]?;
+    let app = one_task(&rt, items)?;
+    let rows: [(i32, &[u8], bool); 2] = [
         (
             0,
             b"[BEGIN] 0x00010001 main\n\
@@ -124,7 +209,7 @@ fn a_run_is_reported_line_by_line(rt: HostRuntime) -> Result<(), Fail> {
             [ PASS] 2 line 4 bin_sem_take OS_SUCCESS\n\
             [  END] 0x00010001 main DONE PASS 2 FAIL 0\n\
             [TOTAL] TASKS 1 PASS 2 FAIL 0\n",
-            0,
+            false,
         ),
         (
             -7,
@@ -133,32 +218,34 @@ fn a_run_is_reported_line_by_line(rt: HostRuntime) -> Result<(), Fail> {
             [ FAIL] 2 line 4 bin_sem_take OS_SEM_TIMEOUT expected OS_SUCCESS\n\
             [  END] 0x00010001 main DONE PASS 1 FAIL 1\n\
             [TOTAL] TASKS 1 PASS 1 FAIL 1\n",
-            1,
+            true,
         ),
     ];
-    for (taken, want, status) in rows {
-        let mut journal = created(alloc, b"main")?;
-        let made = answers(alloc, SUCCESS, 0x0004_0001);
-        line(alloc, &mut journal, create_call(alloc)?, made)?;
-        let taken = answers(alloc, Answer::Code(taken), 0);
-        line(alloc, &mut journal, take_call(), taken)?;
-        exit(alloc, &mut journal)?;
-        assert_eq!(rt; report(alloc, &app, &journal)?.as_slice(), want);
-        assert_eq!(rt; status_of(&app, &journal), status);
+    for (taken, want, fails) in rows {
+        let mut journal = begun(alloc, b"main")?;
+        let made = reply(alloc, SUCCESS, 0x0004_0001);
+        line(alloc, &mut journal, MAIN, create_call(alloc)?, made)?;
+        let taken = reply(alloc, Answer::Code(taken), 0);
+        line(alloc, &mut journal, MAIN, take_call(), taken)?;
+        exit(alloc, &mut journal, MAIN)?;
+        check(&rt, &app, &journal, want, (false, fails))?;
     }
     Ok(())
 }
 
-/// The report of one line that got this reply, without what stands around the line's own.
+/// The line of a report that is left where one line got this reply.
 fn reported<R: Abort + AllocGlobal>(
     rt: &R,
-    item: Item,
+    items: Vec<Item>,
     call: Call,
-    reply: Reply,
-) -> Result<Vec<u8>, Fail> {
-    let app = app(rt, vec![in rt.alloc(); item]?)?;
-    let mut journal = created(rt.alloc(), b"main")?;
-    line(rt.alloc(), &mut journal, call, reply)?;
+    replied: Reply,
+) -> Result<Vec<u8>, Fail>
+    requires nested { IsNested items.items }
+    requires later { AllByRecursion (ItemNames 0 1) items.items }
+{
+    let app = one_task(rt, items)?;
+    let mut journal = begun(rt.alloc(), b"main")?;
+    line(rt.alloc(), &mut journal, MAIN, call, replied)?;
     let text = report(rt.alloc(), &app, &journal)?;
     let line = text.as_slice().split(|byte| *byte == b'\n').nth(1);
     Ok(line.unwrap_or(&[]).to_vec(rt.alloc())?)
@@ -193,16 +280,20 @@ const TAKES: [(Answer, &[u8], &[u8], &[u8]); 4] = [
 ];
 
 #[test]
-fn a_line_that_takes_shows_its_answer(rt: HostRuntime) -> Result<(), Fail> {
+fn a_line_shows_what_it_got_and_what_it_wanted(rt: HostRuntime) -> Result<(), Fail> {
     let alloc = rt.alloc();
     for (answer, wanted, got, want) in TAKES {
-        let item = take(expects(0, Some(Value::Text(text(alloc, wanted)?))));
-        let reply = Reply {
+        let taken = take(4, expects(0, Some(Value::Text(text(alloc, wanted)?))));
+        let items = vec![in alloc; Item::Call(taken)]?;
+        let replied = Reply {
             answer,
             number: 0,
             bytes: Bytes::copy(alloc, got)?,
         };
-        assert_eq!(rt; reported(&rt, item, take_call(), reply)?.as_slice(), want);
+        assert_eq!(rt;
+            reported(&rt, items, take_call(), replied)?.as_slice(),
+            want
+        );
     }
     Ok(())
 }
@@ -221,13 +312,18 @@ fn a_number_is_an_identifier_where_the_call_gives_one(rt: HostRuntime) -> Result
         ),
     ];
     for (wanted, want) in rows {
-        let item = create(alloc, expects(0, Some(Value::Number(wanted))))?;
-        let reply = answers(alloc, SUCCESS, 0x0004_000A);
-        let got = reported(&rt, item, create_call(alloc)?, reply)?;
+        let made = create(alloc, 3, expects(0, Some(Value::Number(wanted))))?;
+        let items = vec![in alloc; Item::Call(made)]?;
+        let got = reported(
+            &rt,
+            items,
+            create_call(alloc)?,
+            reply(alloc, SUCCESS, 0x0004_000A),
+        )?;
         assert_eq!(rt; got.as_slice(), want);
     }
-    let item = take(expects(0, Some(Value::Number(0))));
-    let got = reported(&rt, item, take_call(), answers(alloc, SUCCESS, 9))?;
+    let items = vec![in alloc; Item::Call(take(4, expects(0, Some(Value::Number(0)))))]?;
+    let got = reported(&rt, items, take_call(), reply(alloc, SUCCESS, 9))?;
     let want: &[u8] = b"[ FAIL] 1 line 4 bin_sem_take OS_SUCCESS 9 expected OS_SUCCESS 0";
     assert_eq!(rt; got.as_slice(), want);
     Ok(())
@@ -236,28 +332,127 @@ fn a_number_is_an_identifier_where_the_call_gives_one(rt: HostRuntime) -> Result
 #[test]
 fn a_segment_ends_as_its_task_did(rt: HostRuntime) -> Result<(), Fail> {
     let alloc = rt.alloc();
-    let app = app(&rt, vec![in alloc; take(None)]?)?;
+    let app = one_task(&rt, vec![in alloc; Item::Call(take(4, None))]?)?;
     let none = Journal::new(alloc);
-    let want: &[u8] = b"[TOTAL] TASKS 0 PASS 0 FAIL 0\n";
-    assert_eq!(rt; report(alloc, &app, &none)?.as_slice(), want);
-    assert_eq!(rt; status_of(&app, &none), 0);
-    let mut cut = created(alloc, b"two\nlines")?;
-    line(
-        alloc,
-        &mut cut,
-        take_call(),
-        answers(alloc, Answer::Code(-7), 0),
+    check(
+        &rt,
+        &app,
+        &none,
+        b"[TOTAL] TASKS 0 PASS 0 FAIL 0\n",
+        (false, false),
     )?;
+    let mut cut = begun(alloc, b"two\nlines")?;
+    let taken = reply(alloc, Answer::Code(-7), 0);
+    line(alloc, &mut cut, MAIN, take_call(), taken)?;
     let want: &[u8] = b"[BEGIN] 0x00010001 two\nlines\n\
         [  END] 0x00010001 two\nlines CUT PASS 0 FAIL 0\n\
         [TOTAL] TASKS 1 PASS 0 FAIL 0\n";
-    assert_eq!(rt; report(alloc, &app, &cut)?.as_slice(), want);
-    let mut deleted = created(alloc, b"main")?;
-    let end = answers(alloc, Answer::Deleted, 0);
-    add(&mut deleted, 2, Call::Checkpoint, end)?;
+    check(&rt, &app, &cut, want, (false, false))?;
+    let mut deleted = begun(alloc, b"main")?;
+    let end = reply(alloc, Answer::Deleted, 0);
+    add(&mut deleted, MAIN, Call::Checkpoint, end)?;
     let want: &[u8] = b"[BEGIN] 0x00010001 main\n\
         [  END] 0x00010001 main DELETED PASS 0 FAIL 0\n\
         [TOTAL] TASKS 1 PASS 0 FAIL 0\n";
-    assert_eq!(rt; report(alloc, &app, &deleted)?.as_slice(), want);
+    check(&rt, &app, &deleted, want, (false, false))?;
+    Ok(())
+}
+
+/// Two tasks that wait for semaphores which nobody gives.
+const TWO_STALL: &[u8] = b"[BEGIN] 0x00010001 main\n\
+    [STALL] line 6 bin_sem_take\n\
+    [  END] 0x00010001 main STALLED PASS 0 FAIL 0\n\
+    [BEGIN] 0x00010002 w\n\
+    [STALL] line 10 bin_sem_take\n\
+    [  END] 0x00010002 w STALLED PASS 0 FAIL 0\n\
+    [TOTAL] TASKS 2 PASS 0 FAIL 0\n";
+
+/// The same, where the first wait timed out, and the second task was deleted in its wait and has still to give it up.
+const ONE_STALLS: &[u8] = b"[BEGIN] 0x00010001 main\n\
+    [ FAIL] 1 line 6 bin_sem_take OS_SEM_TIMEOUT expected OS_SUCCESS\n\
+    [  END] 0x00010001 main DONE PASS 0 FAIL 1\n\
+    [BEGIN] 0x00010002 w\n\
+    [STALL] line 10 bin_sem_take\n\
+    [  END] 0x00010002 w STALLED PASS 0 FAIL 0\n\
+    [TOTAL] TASKS 2 PASS 0 FAIL 1\n";
+
+/// The same, where the second task has given its wait up.
+const NONE_STALLS: &[u8] = b"[BEGIN] 0x00010001 main\n\
+    [ FAIL] 1 line 6 bin_sem_take OS_SEM_TIMEOUT expected OS_SUCCESS\n\
+    [  END] 0x00010001 main DONE PASS 0 FAIL 1\n\
+    [BEGIN] 0x00010002 w\n\
+    [  END] 0x00010002 w DELETED PASS 0 FAIL 0\n\
+    [TOTAL] TASKS 2 PASS 0 FAIL 1\n";
+
+#[test]
+fn a_task_stalls_while_its_wait_is_open(rt: HostRuntime) -> Result<(), Fail> {
+    let alloc = rt.alloc();
+    let started = Item::Call(start(alloc, 5, None)?);
+    let main = vec![in alloc; started, Item::Call(take(6, expects(0, None)))]?;
+    let other = vec![in alloc; Item::Call(take(10, expects(0, None)))]?;
+    let app = two_tasks(&rt, main, other)?;
+    let mut journal = begun(alloc, b"main")?;
+    let made = reply(alloc, SUCCESS, u64::from(OTHER));
+    line(alloc, &mut journal, MAIN, start_call(alloc, b"w", 1)?, made)?;
+    for task in [MAIN, OTHER] {
+        let waits = reply(alloc, Answer::Waits, 0);
+        line(alloc, &mut journal, task, take_call(), waits)?;
+    }
+    check(&rt, &app, &journal, TWO_STALL, (true, false))?;
+    let late = reply(alloc, Answer::Code(-7), 0);
+    add(&mut journal, MAIN, Call::WaitEnd { part: 3 }, late)?;
+    exit(alloc, &mut journal, MAIN)?;
+    let deleted = reply(alloc, Answer::Deleted, 0);
+    add(&mut journal, OTHER, Call::Checkpoint, deleted)?;
+    check(&rt, &app, &journal, ONE_STALLS, (true, true))?;
+    let given_up = reply(alloc, SUCCESS, 0);
+    add(&mut journal, OTHER, Call::WaitAbandon { part: 3 }, given_up)?;
+    check(&rt, &app, &journal, NONE_STALLS, (false, true))?;
+    Ok(())
+}
+
+/// The task that has the identifier first exits; a creation that is refused, one of a body that is not there, and the
+/// second task of the identifier follow.
+const TWICE: &[u8] = b"[BEGIN] 0x00010001 main\n\
+    [ PASS] 1 line 5 task_create OS_SUCCESS 0x00010002\n\
+    [  END] 0x00010001 main CUT PASS 1 FAIL 0\n\
+    [BEGIN] 0x00010002 w\n\
+    [ PASS] 1 line 9 bin_sem_take OS_SUCCESS\n\
+    [  END] 0x00010002 w DONE PASS 1 FAIL 0\n\
+    [BEGIN] 0x00010002 v\n\
+    [ FAIL] 1 line 9 bin_sem_take OS_SEM_TIMEOUT expected OS_SUCCESS\n\
+    [  END] 0x00010002 v CUT PASS 0 FAIL 1\n\
+    [TOTAL] TASKS 3 PASS 2 FAIL 1\n";
+
+#[test]
+fn an_identifier_issued_twice_has_two_segments(rt: HostRuntime) -> Result<(), Fail> {
+    let alloc = rt.alloc();
+    let id = Some(Value::Number(u64::from(OTHER)));
+    let main = vec![in alloc; Item::Call(start(alloc, 5, expects(0, id))?)]?;
+    let other = vec![in alloc; Item::Call(take(9, expects(0, None)))]?;
+    let app = two_tasks(&rt, main, other)?;
+    let mut journal = begun(alloc, b"main")?;
+    let made = reply(alloc, SUCCESS, u64::from(OTHER));
+    line(alloc, &mut journal, MAIN, start_call(alloc, b"w", 1)?, made)?;
+    line(
+        alloc,
+        &mut journal,
+        OTHER,
+        take_call(),
+        reply(alloc, SUCCESS, 0),
+    )?;
+    exit(alloc, &mut journal, OTHER)?;
+    let rows: [(&[u8], u32, Answer, u64); 3] = [
+        (b"x", 1, Answer::Code(-14), 0),
+        (b"y", 2, SUCCESS, 0x0001_0003),
+        (b"v", 1, SUCCESS, 0x0001_0002),
+    ];
+    for (name, body, answer, number) in rows {
+        let made = reply(alloc, answer, number);
+        add(&mut journal, 0, start_call(alloc, name, body)?, made)?;
+    }
+    let late = reply(alloc, Answer::Code(-7), 0);
+    line(alloc, &mut journal, OTHER, take_call(), late)?;
+    check(&rt, &app, &journal, TWICE, (false, true))?;
     Ok(())
 }

@@ -11,12 +11,14 @@ use Rattle.osal_run.specs.Outcome.{exit_number, ExitFits, Completes}
 completes_by : (ended : Exit) (check : Check) (status : ℕ) (source sink : Type 0) → exit_number ended ≡ status → ExitFits ended check → (ended ≡ exit.SourceFault → source) → (ended ≡ exit.SinkFault → sink) → Completes status source sink check
 completes_by exit.Passed (Accepted app) status source sink is fits from_source from_sink = λ calm still. inl (sym is)
 completes_by exit.Failed (Accepted app) status source sink is fits from_source from_sink = λ calm still. inr (inl (sym is))
+completes_by exit.Stalled (Accepted app) status source sink is fits from_source from_sink = λ calm still. inr (inr (inl (sym is)))
 completes_by exit.Refused (Accepted app) status source sink is fits from_source from_sink = absurd fits
 completes_by exit.SourceFault (Accepted app) status source sink is fits from_source from_sink = λ calm still. absurd (calm (from_source refl))
 completes_by exit.SinkFault (Accepted app) status source sink is fits from_source from_sink = λ calm still. absurd (still (from_sink refl))
-completes_by exit.NoMemory (Accepted app) status source sink is fits from_source from_sink = λ calm still. inr (inr (sym is))
+completes_by exit.NoMemory (Accepted app) status source sink is fits from_source from_sink = λ calm still. inr (inr (inr (sym is)))
 completes_by exit.Passed (Refused refusal) status source sink is fits from_source from_sink = absurd fits
 completes_by exit.Failed (Refused refusal) status source sink is fits from_source from_sink = absurd fits
+completes_by exit.Stalled (Refused refusal) status source sink is fits from_source from_sink = absurd fits
 completes_by exit.Refused (Refused refusal) status source sink is fits from_source from_sink = λ calm still. inl (sym is)
 completes_by exit.SourceFault (Refused refusal) status source sink is fits from_source from_sink = λ calm still. absurd (calm (from_source refl))
 completes_by exit.SinkFault (Refused refusal) status source sink is fits from_source from_sink = λ calm still. absurd (still (from_sink refl))

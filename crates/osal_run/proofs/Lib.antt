@@ -1,3 +1,4 @@
 pub mod Complete
+pub mod Finishing
 pub mod Nothing
 pub mod Pieces

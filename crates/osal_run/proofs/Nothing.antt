@@ -3,24 +3,27 @@ use Rattle.std.proofs.Common.{◌≡◌, List, [], ◌∷◌, ℕ, Option, Some,
 use Rattle.osal_base.specs.Shelf.{ShelfContent}
 use Rattle.osal_base.specs.Sink.{AppendsPrefix}
 use Rattle.osal_machine.specs.declared.call.Entry.{Entry}
-use Rattle.osal_script.specs.App.{Application, ScriptBody}
-use Rattle.osal_script.specs.Runs.{FollowsBodies, IsPartRun}
+use Rattle.osal_script.specs.App.{Application}
+use Rattle.osal_script.specs.Runs.{IsPartRun}
 use Rattle.osal_run.specs.declared.exit.Exit.TheVariants as exit
 use Rattle.osal_run.specs.Checks.{Check, Refused, Accepted, check_of}
 use Rattle.osal_run.specs.Outcome.{IsCutShort, LeavesFor, WhereBothTold}
 
 -- no bytes are a prefix
-no_bytes : (text before : List ℕ) → AppendsPrefix text before before
+pub no_bytes : (text before : List ℕ) → AppendsPrefix text before before
 no_bytes text before = record { count = 0; within = omega arith; appended = sym (append-nil before) }
 
--- no entries follow any bodies
-no_entries_follow : (bodies : List ScriptBody) → FollowsBodies bodies []
-no_entries_follow [] = tt
-no_entries_follow (body ∷ bodies) = tt
+-- no entries are a front of any run
+no_entries : (app : Application) → IsPartRun app []
+no_entries app = record {
+  legal = tt;
+  follows = record { begins = tt; timed = tt; scripts = tt; ended = tt };
+  timely = tt;
+}
 
 -- nothing is a run that was cut short, whatever the checks find
 cut_at_once : (check : Check) (before : List ℕ) → IsCutShort check [] before before
-cut_at_once (Accepted app) before = (record { legal = tt; follows = no_entries_follow app.bodies }, no_bytes _ before)
+cut_at_once (Accepted app) before = (no_entries app, no_bytes _ before)
 cut_at_once (Refused refusal) before = (refl, no_bytes _ before)
 
 -- a run that found no memory before it began

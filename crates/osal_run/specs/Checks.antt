@@ -6,6 +6,7 @@ use Rattle.osal_script.specs.declared.fault.AppFault.{AppFault}
 use Rattle.osal_run.specs.declared.refusal.Refusal.{Refusal}
 use Rattle.osal_run.specs.declared.refusal.Refusal.TheVariants as refusal
 use Rattle.osal_script.specs.App.{Application}
+use Rattle.osal_script.specs.Cost.{cost_of}
 use Rattle.osal_script.specs.Fault.{kind_text}
 use Rattle.osal_script.specs.Reading.{reading_of}
 
@@ -29,9 +30,17 @@ pub data Check : Type 0 where
   Refused : Refusal → Check
   Accepted : Application → Check
 
+-- the most that an application may cost
+abbrev pub cost_limit : ℕ
+cost_limit = 300000
+
+-- the check of what an application costs
+abbrev pub check_cost : Application → Check
+check_cost app = if nat_lt cost_limit (cost_of app) then Refused refusal.Costly else Accepted app
+
 -- the check of a text
 abbrev pub check_reading : Result Application AppFault → Check
-check_reading (Ok app) = Accepted app
+check_reading (Ok app) = check_cost app
 check_reading (Err fault) = Refused (refusal.Unread fault)
 
 -- the check of a file that is there, or is not
@@ -59,3 +68,4 @@ refusal_text refusal.Usage = codes "usage: osal-run FILE | --journal FILE | --ma
 refusal_text refusal.Missing = codes "osal-run: no such file\n"
 refusal_text refusal.Larger = codes "osal-run: file is larger than 1048576 bytes\n"
 refusal_text (refusal.Unread fault) = fault_text fault
+refusal_text refusal.Costly = codes "osal-run: application costs more than 300000\n"

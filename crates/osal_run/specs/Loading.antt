@@ -8,7 +8,7 @@ use Rattle.osal_run.specs.declared.load.ReadFault.{ReadFault}
 use Rattle.osal_run.specs.declared.load.ReadFault.TheVariants as read_fault
 use Rattle.osal_run.specs.declared.load.Stop.{Stop}
 use Rattle.osal_run.specs.declared.load.Stop.TheVariants as stop
-use Rattle.osal_run.specs.Checks.{Refused, Accepted, file_limit, check_file, check_of}
+use Rattle.osal_run.specs.Checks.{Check, Refused, Accepted, file_limit, check_file, check_of}
 
 -- what holds of what is told, if anything is
 abbrev pub IfTold : {A : Type 0} → Option A → (A → Type 0) → Type 0
@@ -36,6 +36,13 @@ ReadsFile (Ok bytes) content = (bytes ≡ content.rest) × (length bytes ≤ fil
 ReadsFile (Err read_fault.Larger) content = file_limit < length content.rest
 ReadsFile (Err read_fault.Source) content = Unit {0}
 ReadsFile (Err read_fault.Memory) content = Unit {0}
+
+-- the check that a loading stands for; a fault and want of memory stand for none
+abbrev pub checked : Result Application Stop → Option Check
+checked (Ok app) = Some (Accepted app)
+checked (Err (stop.Refused refusal)) = Some (Refused refusal)
+checked (Err stop.Source) = None
+checked (Err stop.Memory) = None
 
 -- what was loaded is what the check of the open file finds
 abbrev pub LoadsFile : Result Application Stop → ShelfContent → Type 0

@@ -11,6 +11,8 @@ pub enum Exit {
     Failed,
     /// The words or the application were refused.
     Refused,
+    /// A wait is open that nothing will end.
+    Stalled,
     /// The source failed.
     SourceFault,
     /// The sink failed.
@@ -28,6 +30,7 @@ impl Exit {
             Exit::Passed => 0,
             Exit::Failed => 1,
             Exit::Refused => 2,
+            Exit::Stalled => 3,
             Exit::SourceFault => 4,
             Exit::SinkFault => 5,
             Exit::NoMemory => 6,

@@ -1,8 +1,9 @@
 //! From the words to an application: the checks before a run, in their order.
-ghost use Rattle.std.specs.Prelude.{◌≡◌, ◌<◌, ◌≤◌, ◌+◌, map, length, IfOk, Err, string_bytes, option_copied};
+ghost use Rattle.std.specs.Prelude.{◌≡◌, ◌<◌, ◌≤◌, ◌+◌, map, length, IfOk, Err, Some, string_bytes, option_copied};
 ghost use Rattle.osal_base.specs.Causes.{Rose, WhereTold};
-ghost use Rattle.osal_run.specs.Checks.{file_name as name_in, file_of};
-ghost use Rattle.osal_run.specs.Loading.{IfTold, ReadsPiece, ReadsFile, LoadsAs, LoadsFile, seen_bytes};
+ghost use Rattle.osal_script.specs.Cost.{cost_of};
+ghost use Rattle.osal_run.specs.Checks.{file_name as name_in, file_of, cost_limit, check_cost};
+ghost use Rattle.osal_run.specs.Loading.{IfTold, checked, ReadsPiece, ReadsFile, LoadsAs, LoadsFile, seen_bytes};
 ghost use Rattle.osal_run.specs.declared.load.ReadFault.TheVariants as read_fault;
 ghost use Rattle.osal_run.specs.declared.load.Stop.TheVariants as stop;
 
@@ -13,6 +14,9 @@ use std::alloc::Global;
 
 /// The most bytes of an application's file.
 const FILE_LIMIT: usize = 1_048_576;
+
+/// The most that an application may cost.
+const COST_LIMIT: u64 = 300_000;
 
 /// How many bytes are asked for at once.
 const CHUNK: usize = 8192;
@@ -123,9 +127,10 @@ fn read_file<S: Shelf>(alloc: Global, shelf: &mut S) -> Result<Vec<u8>, ReadFaul
     Err(ReadFault::Larger)
 }
 
-/// Loads the application that the words name: the words, the opening, the reading, the size, the text.
+/// Loads the application that the words name: the words, the opening, the reading, the size, the text, the cost.
 pub(crate) fn load<S: Shelf>(alloc: Global, words: &[String], shelf: &mut S) -> Result<App, Stop>
     ensures told { IfTold (S.content shelf.old) (LoadsAs result (map string_bytes words.now)) }
+    ensures cost { IfOk result (λ app. cost_of app ≤ cost_limit) }
     ensures later { S.faults shelf.old ≤ S.faults shelf.new }
     ensures cause { result ≡ Err stop.Source → Rose (S.faults shelf.old) (S.faults shelf.new) }
 {
@@ -140,9 +145,22 @@ pub(crate) fn load<S: Shelf>(alloc: Global, words: &[String], shelf: &mut S) -> 
     }
 }
 
+/// An application, unless it costs too much.
+fn within_cost(app: App) -> Result<App, Stop>
+    ensures check { checked result ≡ Some (check_cost app) }
+    ensures cost { IfOk result (λ app. cost_of app ≤ cost_limit) }
+    ensures source { result ≡ Err stop.Source → ⊥ }
+{
+    if COST_LIMIT < app.cost() {
+        return Err(Stop::Refused(Refusal::Costly));
+    }
+    Ok(app)
+}
+
 /// Loads the application in the open file.
 fn load_open<S: Shelf>(alloc: Global, shelf: &mut S) -> Result<App, Stop>
     ensures told { IfTold (S.content shelf.old) (LoadsFile result) }
+    ensures cost { IfOk result (λ app. cost_of app ≤ cost_limit) }
     ensures later { S.faults shelf.old ≤ S.faults shelf.new }
     ensures cause { result ≡ Err stop.Source → Rose (S.faults shelf.old) (S.faults shelf.new) }
 {
@@ -153,7 +171,7 @@ fn load_open<S: Shelf>(alloc: Global, shelf: &mut S) -> Result<App, Stop>
         Err(ReadFault::Memory) => return Err(Stop::Memory),
     };
     match parse(alloc, &bytes) {
-        Ok(app) => Ok(app),
+        Ok(app) => within_cost(app),
         Err(ParseFault::Bad(fault)) => Err(Stop::Refused(Refusal::Unread(fault))),
         Err(ParseFault::OutOfMemory) => Err(Stop::Memory),
     }

@@ -17,6 +17,8 @@ pub enum Refusal {
     Larger,
     /// The text is no application.
     Unread(AppFault),
+    /// The application costs more than 300,000.
+    Costly,
 }
 
 impl Refusal {
@@ -34,6 +36,9 @@ impl Refusal {
                 Bytes::copy(alloc, b"osal-run: file is larger than 1048576 bytes\n")
             }
             Refusal::Unread(fault) => fault_line(alloc, fault),
+            Refusal::Costly => {
+                Bytes::copy(alloc, b"osal-run: application costs more than 300000\n")
+            }
         }
     }
 }

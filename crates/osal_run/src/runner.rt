@@ -1,10 +1,11 @@
 //! The top call.
-ghost use Rattle.std.specs.Prelude.{◌≡◌, ◌<◌, [], map, OnOk, string_bytes};
+ghost use Rattle.std.specs.Prelude.{◌≡◌, ◌<◌, ◌≤◌, [], map, OnOk, string_bytes};
 ghost use Rattle.osal_base.specs.Causes.{HasCause, Rose, WhereTold};
 ghost use Rattle.osal_base.specs.Sink.{Appends, AppendsPrefix};
+ghost use Rattle.osal_script.specs.Cost.{cost_of};
 ghost use Rattle.osal_script.specs.Runs.{IsPartRun, IsRun};
-ghost use Rattle.osal_run.specs.Checks.{Accepted, Refused, check_of, refusal_text};
-ghost use Rattle.osal_run.specs.Outcome.{exit_number, Leaves, LeavesFor, LeavesBy, WhereBothTold, IsFinished, ExitFits, Completes};
+ghost use Rattle.osal_run.specs.Checks.{Accepted, Refused, check_of, cost_limit, refusal_text};
+ghost use Rattle.osal_run.specs.Outcome.{exit_number, Leaves, LeavesFor, LeavesBy, WhereBothTold, IsFinished, IsStatus, ExitFits, Completes};
 ghost use Rattle.osal_run.specs.Loading.{IfTold};
 ghost use Rattle.osal_run.specs.declared.exit.Exit.TheVariants as exit;
 
@@ -51,7 +52,8 @@ fn execute<K: Sink, G: Gate>(
     gate: &G,
     journal: &mut Journal,
 ) -> Exit
-    requires { journal.old.entries ≡ [] }
+    requires cost { cost_of app.now ≤ cost_limit }
+    requires empty { journal.old.entries ≡ [] }
     ensures told { WhereTold (K.written sink.old) (K.written sink.new) (Leaves result (Accepted app.now) journal.new.entries) }
     ensures fits { ExitFits result (Accepted app.now) }
     ensures cause { result ≡ exit.SinkFault → Rose (K.faults sink.old) (K.faults sink.new) }
@@ -70,22 +72,23 @@ fn execute<K: Sink, G: Gate>(
     }
 }
 
+/// How a run with this status of its journal ended.
 fn finished(status: u8) -> Exit
-    requires { status < 2 }
+    requires { IsStatus status }
     ensures value { exit_number result ≡ status }
     ensures done { IsFinished result }
 {
-    if status == 0 {
-        Exit::Passed
-    } else {
-        Exit::Failed
+    match status {
+        0 => Exit::Passed,
+        1 => Exit::Failed,
+        _ => Exit::Stalled,
     }
 }
 
 /// Runs the application that the words name, and answers the exit status.
 ///
 /// The words are one word FILE. The checks come in this order: the words, the opening, the reading,
-/// the size, the text. The journal is emptied first; at a refusal and a fault of the source it stays
+/// the size, the text, the cost. The journal is emptied first; at a refusal and a fault of the source it stays
 /// empty. All texts go to the sink.
 pub fn run<S: Shelf, K: Sink, G: Gate>(
     alloc: Global,

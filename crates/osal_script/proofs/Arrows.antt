@@ -2,9 +2,7 @@
 use Rattle.std.proofs.Common.{◌≡◌, ◌<◌, ◌+◌, ℕ, List, [], ◌∷◌, ◌++◌, length, map, take, drop, get_or, true, false, None, Bor, refl, sym, ap, ◌∙◌, append_assoc, arith}
 use Rattle.std.proofs.lemmas.Bool.{cond-true, cond-false}
 use Rattle.std.proofs.lemmas.List.{at_drop_more, take_more, append-nil, map-append}
-use Rattle.osal_script.specs.declared.app.ScriptCall.{ScriptCall}
-use Rattle.osal_script.specs.declared.grammar.CallWord.TheVariants as word
-use Rattle.osal_script.specs.Grammar.{Registers, with_id, call_of_words, before_arrow, from_arrow, is_arrow, expectation_of}
+use Rattle.osal_script.specs.Expectation.{before_arrow, from_arrow, is_arrow, expectation_of}
 
 -- what the words are
 abbrev pub texts : List (Bor (List ℕ)) → List (List ℕ)
@@ -28,40 +26,6 @@ three (x ∷ []) d h = absurd (omega arith)
 three (x ∷ y ∷ []) d h = absurd (omega arith)
 three (x ∷ y ∷ z ∷ []) d h = refl
 three (x ∷ y ∷ z ∷ w ∷ xs) d h = absurd (omega arith)
-
--- a creation has three words
-pub no_creation : (xs : List (Bor (List ℕ))) (registers : Registers) → (length xs ≡ 3 → ⊥) → call_of_words word.BinSemCreate (texts xs) registers ≡ None
-no_creation [] registers h = refl
-no_creation (x ∷ []) registers h = refl
-no_creation (x ∷ y ∷ []) registers h = refl
-no_creation (x ∷ y ∷ z ∷ []) registers h = absurd (h refl)
-no_creation (x ∷ y ∷ z ∷ w ∷ xs) registers h = refl
-
--- a take has two words
-pub no_take : (xs : List (Bor (List ℕ))) (registers : Registers) → (length xs ≡ 2 → ⊥) → call_of_words word.BinSemTake (texts xs) registers ≡ None
-no_take [] registers h = refl
-no_take (x ∷ []) registers h = refl
-no_take (x ∷ y ∷ []) registers h = absurd (h refl)
-no_take (x ∷ y ∷ z ∷ xs) registers h = refl
-
--- a find has two words
-pub no_find : (xs : List (Bor (List ℕ))) (registers : Registers) → (length xs ≡ 2 → ⊥) → call_of_words word.BinSemFind (texts xs) registers ≡ None
-no_find [] registers h = refl
-no_find (x ∷ []) registers h = refl
-no_find (x ∷ y ∷ []) registers h = absurd (h refl)
-no_find (x ∷ y ∷ z ∷ xs) registers h = refl
-
--- one word
-pub one : (xs : List (Bor (List ℕ))) (d : Bor (List ℕ)) → length xs ≡ 1 → texts xs ≡ (get_or xs 0 d).now ∷ []
-one [] d h = absurd (omega arith)
-one (x ∷ []) d h = refl
-one (x ∷ y ∷ xs) d h = absurd (omega arith)
-
--- a call on an identifier has one word
-pub no_id : (make : ℕ → ScriptCall) (xs : List (Bor (List ℕ))) (registers : Registers) → (length xs ≡ 1 → ⊥) → with_id make (texts xs) registers ≡ None
-no_id make [] registers h = refl
-no_id make (x ∷ []) registers h = absurd (h refl)
-no_id make (x ∷ y ∷ xs) registers h = refl
 
 -- an expectation has two or three words
 pub no_expectation : (xs : List (Bor (List ℕ))) → 0 < length xs → (length xs ≡ 2 → ⊥) → (length xs ≡ 3 → ⊥) → expectation_of (texts xs) ≡ None

@@ -1,68 +1,124 @@
 -- Which journals are runs of an application.
-use Rattle.std.specs.Prelude.{◌≡◌, List, [], ◌∷◌, ℕ}
+use Rattle.std.specs.Prelude.{◌≡◌, ◌<◌, ◌+◌, ◌==◌, List, [], ◌∷◌, Bool, true, false, Some, None, length}
 use Rattle.std.specs.List.{AllByRecursion}
+use Rattle.osal_base.specs.declared.time.Moment.{Moment}
+use Rattle.osal_base.specs.Identifier.{slot_of}
 use Rattle.osal_base.specs.Limits.{version1}
+use Rattle.osal_machine.specs.declared.call.Call.{Call}
 use Rattle.osal_machine.specs.declared.call.Call.TheVariants as call
 use Rattle.osal_machine.specs.declared.call.Entry.{Entry}
 use Rattle.osal_machine.specs.Call.{text_of, said}
-use Rattle.osal_machine.specs.History.{IsLegal}
-use Rattle.osal_script.specs.declared.cursor.Phase.TheVariants as phase
+use Rattle.osal_machine.specs.Step.{MachineState, opening}
+use Rattle.osal_machine.specs.History.{IsLegal, after_entry, replay}
 use Rattle.osal_script.specs.App.{Application, ScriptBody}
-use Rattle.osal_script.specs.Script.{ScriptState, start_of, Follow, reached}
-
--- the identifier of the first task of a run
-abbrev pub main_id : ℕ
-main_id = 65537
-
--- the caller of the first task: one more than its slot
-abbrev pub main_caller : ℕ
-main_caller = 2
+use Rattle.osal_script.specs.Script.{start_of, Follow, is_success, is_ended}
+use Rattle.osal_script.specs.Segments.{Segment, script_in, has_segment, recorded, segments_of}
+use Rattle.osal_script.specs.Waiting.{some_can_go, next_deadline}
 
 -- the first entry of a run creates the first body's task, under its own name
 pub record CreatesMain (body : ScriptBody) (entry : Entry) : Type 0 where
   pub caller : entry.caller ≡ 0
   pub task : entry.task ≡ 0
-  pub now : entry.now.ms ≡ 0
   pub call : said entry.call ≡ call.TaskCreate (text_of body.name) 0 0 0
 
--- an entry that the first task made
-pub record IsOfMain (entry : Entry) : Type 0 where
-  pub caller : entry.caller ≡ main_caller
-  pub task : entry.task ≡ main_id
-  pub now : entry.now.ms ≡ 0
+-- the same by the first body of an application, which has one
+abbrev pub CreatesFirst : List ScriptBody → Entry → Type 0
+CreatesFirst [] entry = ⊥
+CreatesFirst (body ∷ bodies) entry = CreatesMain body entry
 
--- the entries of a run after the first: all are the first task's, and follow its script
-pub record FollowsMain (body : ScriptBody) (entries : List Entry) : Type 0 where
-  pub callers : AllByRecursion IsOfMain entries
-  pub script : Follow (start_of body) entries
+-- whether a call makes time go on
+abbrev pub is_advance : Call → Bool
+is_advance (call.Advance to) = true
+is_advance other = false
 
--- the journal follows the first body
-abbrev pub FollowsBody : ScriptBody → List Entry → Type 0
-FollowsBody body [] = Unit {0}
-FollowsBody body (first ∷ entries) = CreatesMain body first × FollowsMain body entries
+-- an entry of the machine itself makes time go on
+pub record IsOfMachine (entry : Entry) : Type 0 where
+  pub caller : entry.caller ≡ 0
+  pub call : is_advance entry.call ≡ true
+  pub answer : is_success entry.reply.answer ≡ true
 
--- the journal follows the application, whose first body is its first task's; without bodies there are no entries
-abbrev pub FollowsBodies : List ScriptBody → List Entry → Type 0
-FollowsBodies [] [] = Unit {0}
-FollowsBodies [] (entry ∷ entries) = ⊥
-FollowsBodies (body ∷ bodies) entries = FollowsBody body entries
+-- an entry of a task that was created before: its caller is one more than its slot
+pub record IsOfTask (segments : List Segment) (entry : Entry) : Type 0 where
+  pub caller : entry.caller ≡ slot_of entry.task version1.tasks + 1
+  pub created : has_segment segments entry.task ≡ true
 
--- the first task's script is at its end after the journal; a journal without entries is at no end
-abbrev pub EndsBody : ScriptBody → List Entry → Type 0
-EndsBody body [] = ⊥
-EndsBody body (first ∷ entries) = (reached (start_of body) entries).phase ≡ phase.Ended
+-- an entry is the machine's own where its task is 0, and else a task's
+abbrev pub IsCalledBy : Bool → List Segment → Entry → Type 0
+IsCalledBy true segments entry = IsOfMachine entry
+IsCalledBy false segments entry = IsOfTask segments entry
 
--- the same for the application's first body
-abbrev pub EndsBodies : List ScriptBody → List Entry → Type 0
-EndsBodies [] entries = ⊥
-EndsBodies (body ∷ bodies) entries = EndsBody body entries
+-- the same, by the entry's task
+abbrev pub IsCalled : List Segment → Entry → Type 0
+IsCalled segments entry = IsCalledBy (entry.task == 0) segments entry
 
--- a front of a run: a legal history that follows the application
+-- each of the entries is the machine's own, or of a task that was created before it
+abbrev pub AreCalled : Application → List Segment → List Entry → Type 0
+AreCalled app segments [] = Unit {0}
+AreCalled app segments (entry ∷ entries) =
+    IsCalled segments entry × AreCalled app (recorded app segments entry) entries
+
+-- the journal begins with the first task's creation, and its other entries are the machine's or of tasks
+abbrev pub Begins : Application → List Entry → Type 0
+Begins app [] = Unit {0}
+Begins app (first ∷ entries) = CreatesFirst app.bodies first × AreCalled app (recorded app [] first) entries
+
+-- the moment after a call: where it made time go on, that one
+abbrev pub moment_by : Moment → Call → Moment
+moment_by now (call.Advance to) = record { ms = to }
+moment_by now other = now
+
+-- each entry is made at the moment to which time has gone on
+abbrev pub AreTimed : Moment → List Entry → Type 0
+AreTimed now [] = Unit {0}
+AreTimed now (entry ∷ entries) = (entry.now ≡ now) × AreTimed (moment_by now entry.call) entries
+
+-- the entries of a segment are exactly its script's calls, as far as they go
+abbrev pub FollowsScript : Segment → Type 0
+FollowsScript segment = Follow (start_of segment.body) segment.entries
+
+-- a segment whose identifier is created again has come to its script's end
+abbrev pub EndsBefore : List Segment → Type 0
+EndsBefore [] = Unit {0}
+EndsBefore (segment ∷ segments) =
+    (has_segment segments segment.id ≡ true → is_ended (script_in segment).phase ≡ true) × EndsBefore segments
+
+-- a journal follows its application
+pub record Follows (app : Application) (entries : List Entry) : Type 0 where
+  pub begins : Begins app entries
+  pub timed : AreTimed (record { ms = 0 }) entries
+  pub scripts : AllByRecursion FollowsScript (segments_of app entries)
+  pub ended : EndsBefore (segments_of app entries)
+
+-- time goes on only where no task can go on, and then to the least deadline behind the moment
+abbrev pub IsTimelyCall : MachineState → List Segment → Call → Type 0
+IsTimelyCall state segments (call.Advance to) =
+    (some_can_go state segments ≡ false) × (next_deadline state ≡ Some to)
+IsTimelyCall state segments other = Unit {0}
+
+-- each of the entries is timely, in the state and behind the segments before it
+abbrev pub AreTimely : Application → MachineState → List Segment → List Entry → Type 0
+AreTimely app state segments [] = Unit {0}
+AreTimely app state segments (entry ∷ entries) =
+    IsTimelyCall state segments entry.call
+    × AreTimely app (after_entry state entry) (recorded app segments entry) entries
+
+-- time goes on in a journal only as it may
+abbrev pub IsTimely : Application → List Entry → Type 0
+IsTimely app entries = AreTimely app (opening version1) [] entries
+
+-- a front of a run: a legal history that follows the application and is timely
 pub record IsPartRun (app : Application) (entries : List Entry) : Type 0 where
   pub legal : IsLegal version1 entries
-  pub follows : FollowsBodies app.bodies entries
+  pub follows : Follows app entries
+  pub timely : IsTimely app entries
 
--- a run: the same, with at least one entry, and the script at its end
+-- nothing is left to do: no task can go on, and no wait becomes due
+pub record IsSettled (app : Application) (entries : List Entry) : Type 0 where
+  pub still : some_can_go (replay version1 entries) (segments_of app entries) ≡ false
+  pub due : next_deadline (replay version1 entries) ≡ None
+
+-- a run: a front of one with at least one entry, which is settled
 pub record IsRun (app : Application) (entries : List Entry) : Type 0 where
   pub part : IsPartRun app entries
-  pub ends : EndsBodies app.bodies entries
+  pub begun : 0 < length entries
+  pub settled : IsSettled app entries

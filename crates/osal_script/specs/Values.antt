@@ -1,9 +1,11 @@
--- The values that a word stands for: numbers, codes, strings and names.
-use Rattle.std.specs.Prelude.{◌||◌, ◌&&◌, ◌==◌, ◌+◌, ◌-◌, ◌*◌, ◌^◌, List, [], ◌∷◌, ℕ, zero, suc, Bool, Option, Some, None, pos, negsuc, find, length, nat_le, nat_lt, option_map, is_some, unwrap_or, if◌then◌else◌}
+-- The values that a word stands for: numbers, waits, codes, strings and names.
+use Rattle.std.specs.Prelude.{◌||◌, ◌&&◌, ◌==◌, ◌+◌, ◌-◌, ◌*◌, ◌^◌, List, [], ◌∷◌, ℕ, zero, suc, Bool, Option, Some, None, pos, negsuc, codes, find, length, nat_le, nat_lt, option_map, is_some, unwrap_or, if◌then◌else◌}
 use Rattle.std.proofs.Common.{ℤ}
 use Rattle.std.specs.List.{list_all}
 use Rattle.std.specs.Str.{bytes_eq}
 use Rattle.osal_base.specs.declared.status.Status.{Status}
+use Rattle.osal_base.specs.declared.time.Timeout.{Timeout}
+use Rattle.osal_base.specs.declared.time.Timeout.TheVariants as timeout
 use Rattle.osal_base.specs.Status.{all_statuses, status_name, number_of}
 use Rattle.osal_script.specs.declared.strings.StringPhase.{StringPhase}
 use Rattle.osal_script.specs.declared.strings.StringPhase.TheVariants as phase
@@ -62,6 +64,13 @@ positive (Some (suc n)) = Some (suc n)
 -- the number below the limit that a word spells, where it is not 0
 abbrev pub positive_below : ℕ → List ℕ → Option ℕ
 positive_below limit word = positive (number_below limit word)
+
+-- a wait: none, one without a deadline, or one of so many milliseconds
+abbrev pub wait_of : List ℕ → Option Timeout
+wait_of word =
+    if bytes_eq word (codes "check") then Some timeout.Check
+    else (if bytes_eq word (codes "pend") then Some timeout.Pend
+    else option_map (λ ms. timeout.Ms ms) (positive_below (2 ^ 31) word))
 
 -- zero or less
 abbrev pub negated : ℕ → ℤ

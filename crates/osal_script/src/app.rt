@@ -1,7 +1,7 @@
 //! The parts of an application: call lines with their arguments and expectations.
 ghost use Rattle.std.specs.Prelude.{◌≡◌, ◌<◌};
 
-use osal_base::Bytes;
+use osal_base::{Bytes, Timeout};
 use std::marker::Model;
 
 /// The most registers of a body.
@@ -78,17 +78,46 @@ impl Literal {
 /// A call as a line writes it: registers stand where identifiers will.
 #[derive(Debug, Drop)]
 pub enum ScriptCall {
+    TaskCreate {
+        register: Register,
+        name: Literal,
+        /// The number of the body that the task runs: one that is declared later.
+        body: u32,
+        stack: u32,
+        priority: u32,
+    },
+    TaskExit,
+    TaskDelete {
+        id: Register,
+    },
+    TaskSetPriority {
+        id: Register,
+        priority: u32,
+    },
+    TaskFind {
+        register: Register,
+        name: Literal,
+    },
+    TaskInfo {
+        id: Register,
+    },
+    TaskDelay {
+        ms: u32,
+    },
     BinSemCreate {
         register: Register,
         name: Literal,
         value: u32,
     },
-    /// Its wait is `check`.
-    BinSemTake {
-        id: Register,
-    },
     BinSemGive {
         id: Register,
+    },
+    BinSemFlush {
+        id: Register,
+    },
+    BinSemTake {
+        id: Register,
+        wait: Timeout,
     },
     BinSemDelete {
         id: Register,
@@ -133,10 +162,17 @@ pub struct Line {
     pub expect: Option<Expect>,
 }
 
-/// What a body is made of.
+/// What a body is made of, in the order of its lines.
+///
+/// A repeat goes on to its end, with at least one call line in it: a repeat without one does nothing and is left out.
 #[derive(Debug, Drop)]
 pub enum Item {
+    /// A call line.
     Call(Line),
+    /// The items up to its end, so many times.
+    Repeat { count: u32 },
+    /// The end of the last repeat that is open.
+    End,
 }
 
 /// What runs a body.

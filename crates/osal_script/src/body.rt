@@ -1,5 +1,7 @@
 //! Bodies and applications.
-ghost use Rattle.std.specs.Prelude.{◌≡◌, ◌<◌, ◌^◌, Some, length, slice_get, option_map};
+ghost use Rattle.std.specs.Prelude.{◌≡◌, ◌<◌, ◌≤◌, Some, length, slice_get, option_map};
+ghost use Rattle.osal_script.specs.App.{NamesLater};
+ghost use Rattle.osal_script.specs.Nesting.{IsNested};
 
 use crate::{BodyKind, Item};
 use osal_base::Name;
@@ -15,17 +17,19 @@ pub struct Body {
 
 impl Model for Body {
     ghost use Rattle.osal_script.specs.App.{ScriptBody};
+    ghost use Rattle.osal_script.specs.Nesting.{IsNested};
 
     ghost Value = { ScriptBody };
 
     ghost view = { λ a. record { name = a.name; kind = a.kind; items = a.items.items } };
 
-    ghost invariant = { λ a. Unit {0} };
+    ghost invariant = { λ a. IsNested a.items.items };
 }
 
 impl Body {
     /// The body of that name, kind and items.
     pub fn new(name: Name, kind: BodyKind, items: Vec<Item>) -> Body
+        requires { IsNested items.items }
         ensures { result ≡ record { name = name; kind = kind; items = items.items } }
     {
         Body { name, kind, items }
@@ -47,7 +51,8 @@ impl Body {
 
     /// Its items, in order.
     pub fn items(&self) -> &[Item]
-        ensures { result.now ≡ self.now.items }
+        ensures value { result.now ≡ self.now.items }
+        ensures nested { IsNested result.now }
     {
         self.items.as_slice()
     }
@@ -60,21 +65,23 @@ pub struct App {
 }
 
 impl Model for App {
-    ghost use Rattle.std.specs.Prelude.{◌<◌, ◌^◌, length};
-    ghost use Rattle.osal_script.specs.App.{Application};
+    ghost use Rattle.std.specs.Prelude.{◌<◌, ◌≤◌, length};
+    ghost use Rattle.osal_script.specs.App.{Application, NamesLater};
 
     ghost Value = { Application };
 
     ghost view = { λ a. record { version = 1; bodies = a.bodies.items } };
 
-    ghost invariant = { λ a. (0 < length a.bodies.items) × (length a.bodies.items < 2 ^ 32) };
+    ghost invariant = { λ a. (0 < length a.bodies.items) × (length a.bodies.items ≤ 64)
+        × NamesLater (record { version = 1; bodies = a.bodies.items }) };
 }
 
 impl App {
     /// The application of these bodies.
     pub fn new(bodies: Vec<Body>) -> App
         requires some { 0 < length bodies.items }
-        requires countable { length bodies.items < 2 ^ 32 }
+        requires few { length bodies.items ≤ 64 }
+        requires later { NamesLater (record { version = 1; bodies = bodies.items }) }
         ensures { result ≡ record { version = 1; bodies = bodies.items } }
     {
         App { bodies }
@@ -82,7 +89,10 @@ impl App {
 
     /// How many bodies there are.
     pub fn bodies(&self) -> u32
-        ensures { result ≡ length self.now.bodies }
+        ensures count { result ≡ length self.now.bodies }
+        ensures some { 0 < result }
+        ensures few { result ≤ 64 }
+        ensures later { NamesLater self.now }
     {
         self.bodies.len() as u32
     }
@@ -99,6 +109,7 @@ impl App {
     pub fn main(&self) -> &Body
         ensures some { 0 < length self.now.bodies }
         ensures first { slice_get self.now.bodies 0 ≡ Some result.now }
+        ensures later { NamesLater self.now }
     {
         &self.bodies[0]
     }

@@ -1,6 +1,6 @@
 //! How far a text is read.
-ghost use Rattle.std.specs.Prelude.{◌≡◌, [], None};
-ghost use Rattle.osal_script.specs.Reading as reading;
+ghost use Rattle.std.specs.Prelude.{◌≡◌};
+ghost use Rattle.osal_script.specs.Draft as draft;
 
 use crate::registers::Registers;
 use crate::{Body, Item};
@@ -13,17 +13,29 @@ use std::marker::Model;
 pub struct DraftBody {
     pub name: Name,
     pub items: Vec<Item>,
+    /// How many items it has, with those of repeats that are left out.
+    pub count: u32,
+    /// How many repeats are open.
+    pub repeats: u32,
     pub registers: Registers,
 }
 
 impl Model for DraftBody {
-    ghost use Rattle.osal_script.specs.Reading as reading;
+    ghost use Rattle.std.specs.Prelude.{◌≡◌, Some};
+    ghost use Rattle.osal_script.specs.Draft as draft;
+    ghost use Rattle.osal_script.specs.Nesting.{depth_after};
 
-    ghost Value = { reading.OpenBody };
+    ghost Value = { draft.OpenBody };
 
-    ghost view = { λ a. record { name = a.name; items = a.items.items; registers = a.registers } };
+    ghost view = { λ a. record {
+      name = a.name;
+      items = a.items.items;
+      count = a.count;
+      repeats = a.repeats;
+      registers = a.registers;
+    } };
 
-    ghost invariant = { λ a. Unit {0} };
+    ghost invariant = { λ a. depth_after 0 a.items.items ≡ Some a.repeats };
 }
 
 /// Whether the header was there, the bodies that are done, and the one that is open.
@@ -35,9 +47,9 @@ pub struct Draft {
 }
 
 impl Model for Draft {
-    ghost use Rattle.osal_script.specs.Reading as reading;
+    ghost use Rattle.osal_script.specs.Draft as draft;
 
-    ghost Value = { reading.Reading };
+    ghost Value = { draft.Reading };
 
     ghost view = { λ a. record { header = a.header; bodies = a.bodies.items; open_body = a.current } };
 
@@ -47,7 +59,7 @@ impl Model for Draft {
 impl Draft {
     /// Nothing is read.
     pub fn new(alloc: Global) -> Draft
-        ensures { result ≡ reading.unread }
+        ensures { result ≡ draft.unread }
     {
         Draft {
             header: false,

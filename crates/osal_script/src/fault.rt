@@ -17,7 +17,7 @@ pub enum FaultKind {
     Header,
     /// The first word is none that a line begins with.
     Word,
-    /// The line, or its wait, is not built yet.
+    /// The line is not built yet.
     Unbuilt,
     /// The line may not stand here.
     Place,

@@ -1,28 +1,31 @@
-//! The registers that a body names.
-ghost use Rattle.std.specs.Prelude.{◌≡◌, ◌<◌, Some, None, length, option_map, IfOk, IfSome, if◌then◌else◌};
-ghost use Rattle.osal_script.specs.Grammar as grammar;
+//! What the lines of a body name: its registers, and the bodies of the tasks that it creates.
+ghost use Rattle.std.specs.Prelude.{◌≡◌, ◌<◌, length, option_map, IfOk, IfSome};
+ghost use Rattle.osal_script.specs.Places.{number_in};
+ghost use Rattle.osal_script.specs.Registers as registers;
 
 use crate::Register;
-use crate::values::{positive_within, register_name};
+use crate::declarations::Declarations;
+use crate::values::{is_body_name, register_name};
 use osal_base::{Name, OutOfMemory};
 use std::alloc::Global;
 use std::marker::Model;
 
-/// The registers that a body has named so far, in the order of their first mention.
+/// The registers that a body has named so far, in the order of their first mention, and whether a
+/// line named one too many, or a body that no later line declares.
 #[derive(Debug, Drop)]
 pub struct Registers {
     names: Vec<Name>,
     over: bool,
-    unbuilt: bool,
+    undeclared: bool,
 }
 
 impl Model for Registers {
     ghost use Rattle.std.specs.Prelude.{◌≤◌, length};
-    ghost use Rattle.osal_script.specs.Grammar as grammar;
+    ghost use Rattle.osal_script.specs.Registers as registers;
 
-    ghost Value = { grammar.Registers };
+    ghost Value = { registers.Registers };
 
-    ghost view = { λ a. record { names = a.names.items; over = a.over; unbuilt = a.unbuilt } };
+    ghost view = { λ a. record { names = a.names.items; over = a.over; undeclared = a.undeclared } };
 
     ghost invariant = { λ a. length a.names.items ≤ 32 };
 }
@@ -30,12 +33,12 @@ impl Model for Registers {
 impl Registers {
     /// No registers.
     pub fn new(alloc: Global) -> Registers
-        ensures { result ≡ grammar.no_registers }
+        ensures { result ≡ registers.no_registers }
     {
         Registers {
             names: Vec::new(alloc),
             over: false,
-            unbuilt: false,
+            undeclared: false,
         }
     }
 
@@ -46,16 +49,16 @@ impl Registers {
         self.over
     }
 
-    /// Whether a wait was met that scripts do not make yet.
-    pub fn is_unbuilt(&self) -> bool
-        ensures { result ≡ self.now.unbuilt }
+    /// Whether a body was named that no later line declares.
+    pub fn is_undeclared(&self) -> bool
+        ensures { result ≡ self.now.undeclared }
     {
-        self.unbuilt
+        self.undeclared
     }
 
     /// The number of a register, which is a new one where the name is new.
     fn number(&mut self, name: Name) -> Result<Register, OutOfMemory>
-        ensures { IfOk result (λ register. grammar.register_number self.old name ≡ (register, self.new)) }
+        ensures { IfOk result (λ register. registers.register_number self.old name ≡ (register, self.new)) }
     {
         if let Some(place) = place_of(self.names.as_slice(), name.as_slice()) {
             return Ok(Register::new(place as u32));
@@ -72,7 +75,7 @@ impl Registers {
     /// The register that a word names.
     pub fn register_at(&mut self, word: &[u8]) -> Result<Option<Register>, OutOfMemory>
         ensures { IfOk result (λ found.
-            grammar.register_at self.old word.now ≡ option_map (λ register. (register, self.new)) found) }
+            registers.register_at self.old word.now ≡ option_map (λ register. (register, self.new)) found) }
     {
         let Some(name) = register_name(word) else {
             return Ok(None);
@@ -83,30 +86,27 @@ impl Registers {
         }
     }
 
-    /// Whether a word is a wait.
-    pub fn wait_at(&mut self, word: &[u8]) -> bool
-        ensures { grammar.wait_at self.old word.now ≡ (if result then Some self.new else None) }
+    /// The number of the body that a word names, behind so many bodies that have begun.
+    pub fn body_at(&mut self, declared: &Declarations, begun: usize, word: &[u8]) -> Option<u32>
+        ensures { registers.body_at (number_in declared.now begun) self.old word.now
+            ≡ option_map (λ body. (body, self.new)) result }
     {
-        if word == b"check".as_slice() {
-            return true;
+        if !is_body_name(word) {
+            return None;
         }
-        if word == b"pend".as_slice() {
-            self.unbuilt = true;
-            return true;
-        }
-        match positive_within(2147483647, word) {
-            Some(_) => {
-                self.unbuilt = true;
-                true
+        match declared.number(begun, word) {
+            Some(number) => Some(number),
+            None => {
+                self.undeclared = true;
+                Some(0)
             }
-            None => false,
         }
     }
 }
 
 /// Where a name stands among others.
 fn place_of(names: &[Name], name: &[u8]) -> Option<usize>
-    ensures value { result ≡ grammar.place_from 0 names.now name.now }
+    ensures value { result ≡ registers.place_from 0 names.now name.now }
     ensures within { IfSome result (λ place. place < length names.now) }
 {
     for (i, other) in names.iter().enumerate() {

@@ -1,15 +1,23 @@
 use crate::*;
+use osal_base::Timeout;
 use std::alloc::Global;
 use std::process::Abort;
 use std::test::Fail;
 
-const SMALL: &str =
-    "osal-app 1\ntask main\nbin_sem_create $s \"s\" 1 -> OS_SUCCESS 0x00040001\nbin_sem_take $s check -> OS_SUCCESS\nend\n";
-
 fn read(rt: &impl Abort, alloc: Global, text: &[u8]) -> Result<App, ParseFault> {
-    assert!(rt; text.len() < 100000);
+    assert!(rt; text.len() < 1000000);
     parse(alloc, text)
 }
+
+fn line_at<'a>(rt: &impl Abort, items: &'a [Item], place: usize) -> &'a Line {
+    match items.get(place) {
+        Some(Item::Call(line)) => line,
+        _ => panic!(rt; "no call line at {place}"),
+    }
+}
+
+const SMALL: &str =
+    "osal-app 1\ntask main\nbin_sem_create $s \"s\" 1 -> OS_SUCCESS 0x00040001\nbin_sem_take $s check -> OS_SUCCESS\nend\n";
 
 #[test]
 fn a_small_application_is_read(rt: HostRuntime) {
@@ -21,8 +29,8 @@ fn a_small_application_is_read(rt: HostRuntime) {
     assert_eq!(rt; main.kind(), BodyKind::Task);
     let items = main.items();
     assert_eq!(rt; items.len(), 2);
-    let Item::Call(create) = &items[0];
-    let Item::Call(take) = &items[1];
+    let create = line_at(&rt, items, 0);
+    let take = line_at(&rt, items, 1);
     assert_eq!(rt; create.number, 3);
     assert_eq!(rt; take.number, 4);
     match &create.call {
@@ -38,7 +46,10 @@ fn a_small_application_is_read(rt: HostRuntime) {
         _ => panic!(rt; "another call"),
     }
     match &take.call {
-        ScriptCall::BinSemTake { id } => assert_eq!(rt; id.index(), 0),
+        ScriptCall::BinSemTake { id, wait } => {
+            assert_eq!(rt; id.index(), 0);
+            assert_eq!(rt; *wait, Timeout::Check);
+        }
         _ => panic!(rt; "another call"),
     }
     match &create.expect {
@@ -65,7 +76,7 @@ fn escapes_and_registers_are_read(rt: HostRuntime) {
     };
     let items = app.main().items();
     assert_eq!(rt; items.len(), 3);
-    let Item::Call(line) = &items[0];
+    let line = line_at(&rt, items, 0);
     match &line.call {
         ScriptCall::BinSemCreate { name, value, .. } => {
             assert!(rt; name.as_slice() == b"a \n\"\\\x0f".as_slice());
@@ -86,58 +97,255 @@ fn escapes_and_registers_are_read(rt: HostRuntime) {
         _ => panic!(rt; "another expectation"),
     }
     for (place, register) in [(1, 1), (2, 0)] {
-        let Item::Call(line) = &items[place];
-        match &line.call {
-            ScriptCall::BinSemTake { id } => assert_eq!(rt; id.index(), register, "at {place}"),
+        match &line_at(&rt, items, place).call {
+            ScriptCall::BinSemTake { id, .. } => assert_eq!(rt; id.index(), register, "at {place}"),
             _ => panic!(rt; "another call"),
         }
     }
 }
 
-const REFUSED: [(&str, u32, &str); 19] = [
-    ("", 1, "header"),
-    ("\n", 2, "header"),
+#[test]
+fn every_wait_is_read(rt: HostRuntime) {
+    let text =
+        "osal-app 1\ntask main\nbin_sem_take $s check\nbin_sem_take $s pend\nbin_sem_take $s 1\nbin_sem_take $s 0x7fffffff\nend\n";
+    let Ok(app) = read(&rt, rt.alloc(), text.as_bytes()) else {
+        panic!(rt; "refused");
+    };
+    let items = app.main().items();
+    let waits = [
+        Timeout::Check,
+        Timeout::Pend,
+        Timeout::Ms(1),
+        Timeout::Ms(2147483647),
+    ];
+    for (place, wanted) in waits.iter().enumerate() {
+        match &line_at(&rt, items, place).call {
+            ScriptCall::BinSemTake { wait, .. } => assert_eq!(rt; *wait, *wanted, "at {place}"),
+            _ => panic!(rt; "another call"),
+        }
+    }
+}
+
+fn is_creation(call: &ScriptCall, stack: u32, priority: u32, body: u32) -> bool {
+    match call {
+        ScriptCall::TaskCreate {
+            body: runs,
+            stack: size,
+            priority: rank,
+            ..
+        } => *runs == body && *size == stack && *rank == priority,
+        _ => false,
+    }
+}
+
+const SEVERAL: &str =
+    "osal-app 1\ntask main\ntask_create $t \"a\" w 1024 100\ntask_create $u \"b\" last 0 1\nend\ntask w\ntask_create $t \"c\" last 2 3\nend\ntask last\nend\n";
+
+#[test]
+fn a_body_is_named_by_its_number(rt: HostRuntime) {
+    let Ok(app) = read(&rt, rt.alloc(), SEVERAL.as_bytes()) else {
+        panic!(rt; "refused");
+    };
+    assert_eq!(rt; app.bodies(), 3);
+    let main = app.body(0).items();
+    assert!(rt; is_creation(&line_at(&rt, main, 0).call, 1024, 100, 1));
+    assert!(rt; is_creation(&line_at(&rt, main, 1).call, 0, 1, 2));
+    assert!(rt; app.bodies() > 1);
+    let second = app.body(1);
+    assert!(rt; second.name().as_slice() == b"w".as_slice());
+    assert!(rt; is_creation(&line_at(&rt, second.items(), 0).call, 2, 3, 2));
+    assert!(rt; app.bodies() > 2);
+    assert!(rt; app.body(2).items().is_empty());
+}
+
+fn letter_of(item: &Item) -> u8 {
+    match item {
+        Item::Call(line) => match &line.call {
+            ScriptCall::TaskCreate { .. } => b'c',
+            ScriptCall::TaskExit => b'x',
+            ScriptCall::TaskDelete { .. } => b'd',
+            ScriptCall::TaskSetPriority { .. } => b'p',
+            ScriptCall::TaskFind { .. } => b'f',
+            ScriptCall::TaskInfo { .. } => b'i',
+            ScriptCall::TaskDelay { .. } => b'w',
+            ScriptCall::BinSemCreate { .. } => b'C',
+            ScriptCall::BinSemGive { .. } => b'G',
+            ScriptCall::BinSemFlush { .. } => b'L',
+            ScriptCall::BinSemTake { .. } => b'T',
+            ScriptCall::BinSemDelete { .. } => b'D',
+            ScriptCall::BinSemFind { .. } => b'F',
+            ScriptCall::BinSemInfo { .. } => b'I',
+            ScriptCall::Hold { .. } => b'h',
+            ScriptCall::Release { .. } => b'r',
+        },
+        Item::Repeat { .. } => b'(',
+        Item::End => b')',
+    }
+}
+
+const ITEMS: [(&str, &str); 6] = [
+    (
+        "task_exit\ntask_delete $t\ntask_set_priority $t 7\ntask_find $t \"a\"\ntask_info $t\ntask_delay 20",
+        "xdpfiw",
+    ),
+    (
+        "bin_sem_create $s \"s\" 0\nbin_sem_give $s\nbin_sem_flush $s\nbin_sem_take $s pend\nbin_sem_delete $s\nbin_sem_find $s \"s\"\nbin_sem_info $s\nhold $s\nrelease $s",
+        "CGLTDFIhr",
+    ),
+    (
+        "hold $a\nrepeat 3\nrelease $a\nrepeat 0x10\nhold $a\nend\nend\nrelease $a",
+        "h(r(h))r",
+    ),
+    (
+        "repeat 1\nrepeat 1\nrepeat 1\nrepeat 100000\nhold $a\nend\nend\nend\nend",
+        "((((h))))",
+    ),
+    ("repeat 5\nend\nhold $a\nrepeat 5\n# nothing\nend", "h"),
+    (
+        "repeat 2\nrepeat 3\nrepeat 4\nend\nend\nhold $a\nrepeat 5\nend\nend",
+        "(h)",
+    ),
+];
+
+#[test]
+fn every_line_and_nested_repeats_are_read(rt: HostRuntime) -> Result<(), Fail> {
+    for (lines, wanted) in ITEMS {
+        let mut text = Vec::from_slice(rt.alloc(), b"osal-app 1\ntask main\n".as_slice())?;
+        text.extend_from_slice(lines.as_bytes())?;
+        text.extend_from_slice(b"\nend\n".as_slice())?;
+        let Ok(app) = read(&rt, rt.alloc(), text.as_slice()) else {
+            panic!(rt; "{lines}");
+        };
+        let mut letters = Vec::new(rt.alloc());
+        for item in app.main().items() {
+            letters.push(letter_of(item))?;
+        }
+        assert!(rt; letters.as_slice() == wanted.as_bytes(), "{lines}");
+    }
+    Ok(())
+}
+
+const REFUSED: [(&str, u32, &str); 45] = [
+    // the worked refusals
     ("osal-app 3", 1, "header"),
-    ("osal-app 1 1", 1, "header"),
-    ("# none yet\ntask main\n", 2, "header"),
     ("osal-app 1\n#\x07", 2, "byte"),
     ("osal-app 1\n", 2, "end"),
-    ("osal-app 1\nosal-app 1\n", 2, "place"),
+    ("osal-app 1\ntask main\nbin_sem_give $s\n", 4, "end"),
+    ("osal-app 1\ntask main\nfrob\nend\n", 3, "word"),
+    ("osal-app 1\nbin_sem_give $s\n", 2, "place"),
+    ("osal-app 1\nhandler h\nend\n", 2, "unbuilt"),
     (
-        "osal-app 1\ntask main\nbin_sem_create $s \"s\"",
+        "osal-app 1\ntask main\ntask_delay 4294967296\nend\n",
         3,
         "argument",
     ),
-    ("osal-app 1\ntask main\nfrob", 3, "word"),
-    ("osal-app 1\nbin_sem_take $s check", 2, "place"),
     (
-        "osal-app 1\ntask main\nqueue_create $q \"q\" 1 1",
+        "osal-app 1\ntask main\nbin_sem_find $s \"s\nend\n",
+        3,
+        "argument",
+    ),
+    (
+        "osal-app 1\ntask main\nrepeat 100001\nend\nend\n",
+        3,
+        "many",
+    ),
+    (
+        "osal-app 1\ntask main\nrepeat 1\nrepeat 1\nrepeat 1\nrepeat 1\nrepeat 1\nend\nend\nend\nend\nend\nend\n",
+        7,
+        "many",
+    ),
+    (
+        "osal-app 1\ntask main\ntask_create $t \"m\" main 0 1\nend\n",
+        3,
+        "body",
+    ),
+    ("osal-app 1\ntask main\nend\ntask main\nend\n", 4, "body"),
+    (
+        "osal-app 1\ntask main\nend\nhandler h\ntask_delay 1\nend\n",
+        4,
+        "unbuilt",
+    ),
+    // the header and the end
+    ("", 1, "header"),
+    ("\n", 2, "header"),
+    ("osal-app 1 1", 1, "header"),
+    ("# none yet\ntask main\n", 2, "header"),
+    ("osal-app 1\nosal-app 1\n", 2, "place"),
+    ("osal-app 1\ntask main\nrepeat 1\nend\n", 5, "end"),
+    // what is not built yet stands before the place and the form
+    ("osal-app 1\nqueue_put\n", 2, "unbuilt"),
+    (
+        "osal-app 1\ntask main\ncount_sem_take $c pend\n",
         3,
         "unbuilt",
     ),
-    ("osal-app 1\ntask main\nbin_sem_take $s pend", 3, "unbuilt"),
+    // where a line may stand
+    ("osal-app 1\nrepeat 1\n", 2, "place"),
+    ("osal-app 1\ntask main\nend\nend\n", 4, "place"),
+    ("osal-app 1\ntask main\nend\nend x\n", 4, "place"),
+    ("osal-app 1\ntask main\ntask\n", 3, "place"),
+    (
+        "osal-app 1\ntask main\nrepeat 1\ntask main\nend\nend\n",
+        4,
+        "place",
+    ),
+    // the form of its words
+    ("osal-app 1\ntask\n", 2, "argument"),
+    ("osal-app 1\ntask a-b\n", 2, "argument"),
+    ("osal-app 1\ntask main\nend x\n", 3, "argument"),
+    ("osal-app 1\ntask main\nrepeat\n", 3, "argument"),
+    ("osal-app 1\ntask main\nrepeat 4294967296\n", 3, "argument"),
+    ("osal-app 1\ntask main\ntask_exit 1\n", 3, "argument"),
+    ("osal-app 1\ntask main\nbin_sem_take $s 0\n", 3, "argument"),
     (
         "osal-app 1\ntask main\nbin_sem_take $s pend -> 0 1 1",
         3,
         "argument",
     ),
     (
-        "osal-app 1\ntask main\nbin_sem_create $s \"s 1",
+        "osal-app 1\ntask main\ntask_create $t \"a\" \"w\" 0 1",
         3,
         "argument",
     ),
     (
-        "osal-app 1\ntask main\nbin_sem_create $s \"s\" 4294967296",
+        "osal-app 1\ntask main\ntask_create $t \"a\" main 0 x",
         3,
         "argument",
     ),
+    // limits
+    ("osal-app 1\ntask main\nrepeat 0\n", 3, "many"),
+    ("osal-app 1\ntask main\nrepeat 4294967295\n", 3, "many"),
+    // bodies: a declaration counts by its words alone, and only behind the line
     (
-        "osal-app 1\ntask main\nend\ntask other\nend\n",
+        "osal-app 1\ntask main\ntask_create $t \"a\" w 0 1\n# task w\n",
+        3,
+        "body",
+    ),
+    (
+        "osal-app 1\ntask main\ntask_create $t \"a\" w 0 1\ntask w 1\n",
+        3,
+        "body",
+    ),
+    (
+        "osal-app 1\ntask main\ntask_create $t \"a\" w 0 1\n\ttask w\r\n",
         4,
-        "unbuilt",
+        "place",
     ),
-    ("osal-app 1\ntask main\nbin_sem_take $s check\n", 4, "end"),
-    ("osal-app 1\ntask main\nend\nend\n", 4, "place"),
+    (
+        "osal-app 1\ntask w\nend\ntask main\ntask_create $t \"a\" w 0 1\nend\n",
+        5,
+        "body",
+    ),
+    (
+        "osal-app 1\ntask w\nend\ntask main\ntask_create $t \"a\" w 0 1\nend\ntask w\nend\n",
+        7,
+        "body",
+    ),
+    (
+        "osal-app 1\ntask main\ntask_create $t \"a\" h 0 1\nend\nhandler h\nend\n",
+        3,
+        "body",
+    ),
 ];
 
 #[test]
@@ -174,6 +382,28 @@ fn a_line_has_at_most_255_bytes(rt: HostRuntime) -> Result<(), Fail> {
 }
 
 #[test]
+fn a_long_line_declares_its_body(rt: HostRuntime) -> Result<(), Fail> {
+    let mut text = Vec::from_slice(
+        rt.alloc(),
+        b"osal-app 1\ntask main\ntask_create $t \"a\" w 0 1\nend\ntask w".as_slice(),
+    )?;
+    for _ in 0..300 {
+        text.push(b' ')?;
+    }
+    match read(&rt, rt.alloc(), text.as_slice()) {
+        Err(fault) => assert_eq!(rt;
+            fault,
+            ParseFault::Bad(AppFault {
+                line: 5,
+                kind: FaultKind::Long
+            })
+        ),
+        Ok(_) => panic!(rt; "read"),
+    }
+    Ok(())
+}
+
+#[test]
 fn a_body_has_at_most_32_registers(rt: HostRuntime) -> Result<(), Fail> {
     let mut text = Vec::from_slice(rt.alloc(), b"osal-app 1\ntask main\n".as_slice())?;
     for i in 0..33 {
@@ -187,6 +417,64 @@ fn a_body_has_at_most_32_registers(rt: HostRuntime) -> Result<(), Fail> {
             fault,
             ParseFault::Bad(AppFault {
                 line: 35,
+                kind: FaultKind::Many
+            })
+        ),
+        Ok(_) => panic!(rt; "read"),
+    }
+    Ok(())
+}
+
+// Repeats that are left out count as items too.
+fn items_of(rt: &impl Abort, alloc: Global, repeats: u32) -> Result<ParseFault, Fail> {
+    let mut text = Vec::from_slice(alloc, b"osal-app 1\ntask main\n".as_slice())?;
+    for _ in 0..repeats {
+        text.extend_from_slice(b"repeat 1\nend\n".as_slice())?;
+    }
+    for _ in repeats..4096 {
+        text.extend_from_slice(b"hold $a\n".as_slice())?;
+    }
+    text.extend_from_slice(b"hold $a\n".as_slice())?;
+    match read(rt, alloc, text.as_slice()) {
+        Err(fault) => Ok(fault),
+        Ok(_) => panic!(rt; "read"),
+    }
+}
+
+#[test]
+fn a_body_has_at_most_4096_items(rt: HostRuntime) -> Result<(), Fail> {
+    for (repeats, line) in [(0, 4099), (4096, 8195), (100, 4199)] {
+        let fault = items_of(&rt, rt.alloc(), repeats)?;
+        assert_eq!(rt;
+            fault,
+            ParseFault::Bad(AppFault {
+                line,
+                kind: FaultKind::Many
+            })
+        );
+    }
+    Ok(())
+}
+
+#[test]
+fn there_are_at_most_64_bodies(rt: HostRuntime) -> Result<(), Fail> {
+    let mut text = Vec::from_slice(rt.alloc(), b"osal-app 1\n".as_slice())?;
+    for i in 0..64 {
+        text.extend_from_slice(b"task w".as_slice())?;
+        text.push(b'a' + i % 26)?;
+        text.push(b'a' + i / 26)?;
+        text.extend_from_slice(b"\nend\n".as_slice())?;
+    }
+    match read(&rt, rt.alloc(), text.as_slice()) {
+        Ok(app) => assert_eq!(rt; app.bodies(), 64),
+        Err(_) => panic!(rt; "refused"),
+    }
+    text.extend_from_slice(b"task waa\nend\n".as_slice())?;
+    match read(&rt, rt.alloc(), text.as_slice()) {
+        Err(fault) => assert_eq!(rt;
+            fault,
+            ParseFault::Bad(AppFault {
+                line: 130,
                 kind: FaultKind::Many
             })
         ),

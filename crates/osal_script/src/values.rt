@@ -5,7 +5,7 @@ ghost use Rattle.std.specs.Str.{bytes_eq};
 ghost use Rattle.osal_base.specs.Status.{status_name};
 ghost use Rattle.osal_script.specs.Values as values;
 
-use osal_base::Status;
+use osal_base::{Status, Timeout};
 
 /// All statuses that have a name.
 const STATUSES: [Status; 28] = [
@@ -110,13 +110,34 @@ pub fn number_within(greatest: u64, word: &[u8]) -> Option<u64>
 }
 
 /// The number within the greatest that a word spells, where it is not 0.
-pub fn positive_within(greatest: u64, word: &[u8]) -> Option<u64>
-    ensures { result ≡ values.positive_below (greatest + 1) word.now }
+fn positive_within(greatest: u64, word: &[u8]) -> Option<u64>
+    ensures value { result ≡ values.positive_below (greatest + 1) word.now }
+    ensures within { IfSome result (λ number. number ≤ greatest) }
 {
     match number_within(greatest, word) {
         Some(0) => None,
         number => number,
     }
+}
+
+/// The number of 32 bits that a word spells.
+pub fn number_of(word: &[u8]) -> Option<u32>
+    ensures { result ≡ values.number_below (2 ^ 32) word.now }
+{
+    Some(number_within(4294967295, word)? as u32)
+}
+
+/// The wait that a word stands for.
+pub fn wait_of(word: &[u8]) -> Option<Timeout>
+    ensures { result ≡ values.wait_of word.now }
+{
+    if word == b"check".as_slice() {
+        return Some(Timeout::Check);
+    }
+    if word == b"pend".as_slice() {
+        return Some(Timeout::Pend);
+    }
+    Some(Timeout::Ms(positive_within(2147483647, word)? as u32))
 }
 
 /// The name of the register that a word names behind `$`.

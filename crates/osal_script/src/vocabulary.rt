@@ -5,25 +5,18 @@ ghost use Rattle.std.specs.Str.{bytes_eq};
 ghost use Rattle.osal_script.specs.Vocabulary as vocabulary;
 
 use crate::grammar::{CallWord, FirstWord};
+use crate::semaphores::BinSemWord;
+use crate::tasks::TaskWord;
 
 /// The words whose lines are not read yet.
-const UNBUILT: [&str; 79] = [
+const UNBUILT: [&str; 70] = [
     "handler",
-    "repeat",
-    "task_create",
-    "task_exit",
-    "task_delete",
-    "task_set_priority",
-    "task_find",
-    "task_info",
-    "task_delay",
     "queue_create",
     "queue_delete",
     "queue_put",
     "queue_get",
     "queue_find",
     "queue_info",
-    "bin_sem_flush",
     "count_sem_create",
     "count_sem_give",
     "count_sem_take",
@@ -99,39 +92,91 @@ pub fn first_word(text: &[u8]) -> Option<FirstWord>
     if text == b"task".as_slice() {
         return Some(FirstWord::Task);
     }
+    if text == b"repeat".as_slice() {
+        return Some(FirstWord::Repeat);
+    }
     if text == b"end".as_slice() {
         return Some(FirstWord::End);
     }
-    if text == b"bin_sem_create".as_slice() {
-        return Some(FirstWord::Call(CallWord::BinSemCreate));
+    match call_word(text) {
+        Some(call) => Some(FirstWord::Call(call)),
+        None => unbuilt_word(text),
     }
-    if text == b"bin_sem_take".as_slice() {
-        return Some(FirstWord::Call(CallWord::BinSemTake));
-    }
-    other_call(text)
 }
 
-fn other_call(text: &[u8]) -> Option<FirstWord>
-    ensures { result ≡ vocabulary.other_call text.now }
+/// The call that a word names.
+fn call_word(text: &[u8]) -> Option<CallWord>
+    ensures { result ≡ vocabulary.call_word text.now }
 {
-    if text == b"bin_sem_give".as_slice() {
-        return Some(FirstWord::Call(CallWord::BinSemGive));
-    }
-    if text == b"bin_sem_delete".as_slice() {
-        return Some(FirstWord::Call(CallWord::BinSemDelete));
-    }
-    if text == b"bin_sem_find".as_slice() {
-        return Some(FirstWord::Call(CallWord::BinSemFind));
-    }
-    if text == b"bin_sem_info".as_slice() {
-        return Some(FirstWord::Call(CallWord::BinSemInfo));
-    }
     if text == b"hold".as_slice() {
-        return Some(FirstWord::Call(CallWord::Hold));
+        return Some(CallWord::Hold);
     }
     if text == b"release".as_slice() {
-        return Some(FirstWord::Call(CallWord::Release));
+        return Some(CallWord::Release);
     }
+    match task_word(text) {
+        Some(call) => Some(CallWord::Task(call)),
+        None => Some(CallWord::BinSem(bin_sem_word(text)?)),
+    }
+}
+
+fn task_word(text: &[u8]) -> Option<TaskWord>
+    ensures { result ≡ vocabulary.task_word text.now }
+{
+    if text == b"task_create".as_slice() {
+        return Some(TaskWord::Create);
+    }
+    if text == b"task_exit".as_slice() {
+        return Some(TaskWord::Exit);
+    }
+    if text == b"task_delete".as_slice() {
+        return Some(TaskWord::Delete);
+    }
+    if text == b"task_set_priority".as_slice() {
+        return Some(TaskWord::SetPriority);
+    }
+    if text == b"task_find".as_slice() {
+        return Some(TaskWord::Find);
+    }
+    if text == b"task_info".as_slice() {
+        return Some(TaskWord::Info);
+    }
+    if text == b"task_delay".as_slice() {
+        return Some(TaskWord::Delay);
+    }
+    None
+}
+
+fn bin_sem_word(text: &[u8]) -> Option<BinSemWord>
+    ensures { result ≡ vocabulary.bin_sem_word text.now }
+{
+    if text == b"bin_sem_create".as_slice() {
+        return Some(BinSemWord::Create);
+    }
+    if text == b"bin_sem_give".as_slice() {
+        return Some(BinSemWord::Give);
+    }
+    if text == b"bin_sem_flush".as_slice() {
+        return Some(BinSemWord::Flush);
+    }
+    if text == b"bin_sem_take".as_slice() {
+        return Some(BinSemWord::Take);
+    }
+    if text == b"bin_sem_delete".as_slice() {
+        return Some(BinSemWord::Delete);
+    }
+    if text == b"bin_sem_find".as_slice() {
+        return Some(BinSemWord::Find);
+    }
+    if text == b"bin_sem_info".as_slice() {
+        return Some(BinSemWord::Info);
+    }
+    None
+}
+
+fn unbuilt_word(text: &[u8]) -> Option<FirstWord>
+    ensures { result ≡ vocabulary.unbuilt_word text.now }
+{
     if is_unbuilt(text) {
         Some(FirstWord::Unbuilt)
     } else {

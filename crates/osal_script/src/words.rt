@@ -157,7 +157,7 @@ fn word_start(line: &[u8]) -> usize
 }
 
 /// The first word of a line, and what comes after it; nothing where the line has none.
-fn next_word(line: &[u8]) -> Option<(&[u8], &[u8])>
+pub fn next_word(line: &[u8]) -> Option<(&[u8], &[u8])>
     ensures { MatchOption result (words.words_of line.now ≡ []) (λ found.
         (words.words_of line.now ≡ found.0.now ∷ words.words_of found.1.now) × (length found.1.now < length line.now)) }
 {

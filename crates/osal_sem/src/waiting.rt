@@ -1,6 +1,7 @@
 //! How the takes of binary semaphores wait and end.
 ghost use Rattle.std.specs.Prelude.{◌≡◌, IsOk, IfOk};
 ghost use Rattle.osal_base.specs.Reply.{replied};
+ghost use Rattle.osal_idtable.specs.Deadlines.{deadlines_in, least};
 ghost use Rattle.osal_sem.specs.Binary.{bin_sem_at, is_full, wait_end_step, wait_abandon_step, ready};
 
 use crate::{BinSem, BinSemPart};
@@ -80,5 +81,12 @@ impl BinSemPart {
             Some(wait) => wait.released || self.is_full(wait.what) || wait.is_due(now),
             None => true,
         }
+    }
+
+    /// The least deadline of an open take behind a moment, in milliseconds, if there is one.
+    pub fn next_deadline(&self, now: Moment) -> Option<u64>
+        ensures { result ≡ least (deadlines_in now self.now.objects.waits.records) }
+    {
+        self.objects.next_deadline(now)
     }
 }

@@ -1,6 +1,7 @@
 //! How a task waits for time to pass.
 ghost use Rattle.std.specs.Prelude.{◌≡◌, ◌<◌, ◌⊎◌, IsOk, IfOk};
 ghost use Rattle.osal_base.specs.Reply.{replied};
+ghost use Rattle.osal_idtable.specs.Deadlines.{deadlines_in, least};
 ghost use Rattle.osal_task.specs.Delays.{task_delay_step, wait_end_step, wait_abandon_step, ready};
 
 use crate::TaskPart;
@@ -85,5 +86,12 @@ impl TaskPart {
             Some(wait) if part == 0 => wait.is_due(now),
             _ => true,
         }
+    }
+
+    /// The least deadline of an open delay behind a moment, in milliseconds, if there is one.
+    pub fn next_deadline(&self, now: Moment) -> Option<u64>
+        ensures { result ≡ least (deadlines_in now self.now.objects.waits.records) }
+    {
+        self.objects.next_deadline(now)
     }
 }

@@ -2,12 +2,13 @@
 ghost use Rattle.std.specs.Prelude.{◌≡◌, [], option_copied};
 ghost use Rattle.osal_base.specs.Reply.{replied};
 ghost use Rattle.osal_idtable.specs.Waits.{wait_of, stands_on};
+ghost use Rattle.osal_idtable.specs.Deadlines.{deadlines_in, least};
 ghost use Rattle.osal_idtable.specs.Waiting.{hold_each, release_each, begin_step, end_wait, abandon_step, release_waits};
 
 use super::Objects;
 use crate::waits::WaitRecord;
 use crate::{Standing, Table};
-use osal_base::{Ack, OsalId, Status};
+use osal_base::{Ack, Moment, OsalId, Status};
 
 /// One hold more of what a wait stands on.
 fn hold_each<T>(table: &mut Table<T>, on: &Standing)
@@ -33,6 +34,13 @@ impl<T, W> Objects<T, W> {
         ensures { option_copied result ≡ wait_of self.now.waits task }
     {
         self.waits.wait_of(task)
+    }
+
+    /// The least deadline of an open wait behind a moment, in milliseconds, if there is one. It looks at each wait.
+    pub fn next_deadline(&self, now: Moment) -> Option<u64>
+        ensures { result ≡ least (deadlines_in now self.now.waits.records) }
+    {
+        self.waits.next_deadline(now)
     }
 }
 

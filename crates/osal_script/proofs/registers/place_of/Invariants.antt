@@ -1,5 +1,5 @@
 use Rattle.std.proofs.Common.{◌≡◌, drop}
-use Rattle.osal_script.specs.Grammar.{place_from}
+use Rattle.osal_script.specs.Registers.{place_from}
 use Rattle.osal_script.proofs.registers.place_of.Given as goal
 
 abbrev pub invariant-loop-i : goal.invariant-loop-i

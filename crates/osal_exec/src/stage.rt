@@ -1,0 +1,352 @@
+//! What a run goes on with: a machine, and the tasks whose scripts run on it.
+ghost use Rattle.std.specs.Prelude.{◌≡◌, ◌<◌, ◌≤◌, true, false, [], None, length, replicate, MatchOption, IfOk, OnOk, OnErr};
+ghost use Rattle.osal_base.specs.Limits.{version1};
+ghost use Rattle.osal_machine.specs.Step.{opening};
+ghost use Rattle.osal_machine.specs.declared.call.Call.TheVariants.{Advance};
+ghost use Rattle.osal_script.specs.App.{NamesLater};
+ghost use Rattle.osal_script.specs.Cost.{cost_of};
+ghost use Rattle.osal_script.specs.Segments.{segments_of};
+ghost use Rattle.osal_script.specs.Waiting.{some_can_go};
+ghost use Rattle.osal_script.specs.Runs.{IsPartRun, IsRun};
+ghost use Rattle.osal_exec.specs.Running.{runner_at, can_run, is_lost, IsLostIn, MayMake, NoneRuns, NoneIsLost, AreMembers};
+ghost use Rattle.osal_exec.specs.Driving.{MakesEntry, drive_of, IsDriven, AddsEntry, IsSteady, MayCreate, Takes, Since, HasTurned};
+
+use crate::Gate;
+use crate::runners::{Runners, SLOTS};
+use osal_base::{Bytes, Limits, OsalId, OutOfMemory, Reply, Room};
+use osal_machine::{Call, Entry, Journal, Whole};
+use osal_script::{App, Phase, Step};
+use std::alloc::Global;
+
+/// A machine, the room for the bytes of its replies, and the tasks whose scripts run on it.
+#[derive(Drop)]
+pub(crate) struct Stage<'a> {
+    whole: Whole,
+    room: Room,
+    runners: Runners<'a>,
+}
+
+/// Makes a call of the machine at its moment, and gives the entry.
+fn entry_of(
+    alloc: Global,
+    whole: &mut Whole,
+    room: &mut Room,
+    caller: u32,
+    task: OsalId,
+    call: Call,
+) -> Result<Entry, OutOfMemory>
+    ensures { IfOk result (λ entry. MakesEntry caller task call whole.old whole.new entry) }
+{
+    let now = whole.moment();
+    let ack = whole.apply(alloc, task, now, &call, room)?;
+    let bytes = Bytes::copy(alloc, room.as_slice())?;
+    let reply = Reply {
+        answer: ack.answer,
+        number: ack.number,
+        bytes,
+    };
+    Ok(Entry {
+        caller,
+        task,
+        now,
+        call,
+        reply,
+    })
+}
+
+impl<'a> Stage<'a> {
+    /// A machine with the limits of version 1, on which no task runs.
+    pub(crate) fn open(alloc: Global) -> Result<Stage<'a>, OutOfMemory>
+        ensures machine { IfOk result (λ stage. stage.whole ≡ opening version1) }
+        ensures runners { IfOk result (λ stage. stage.runners ≡ replicate 64 None) }
+    {
+        Ok(Stage {
+            whole: Whole::open(alloc, &Limits::version1())?,
+            room: Room::new(),
+            runners: Runners::new(alloc)?,
+        })
+    }
+
+    /// Whether the task in a slot goes on at once. The machine is asked only where it waits.
+    pub(crate) fn can_run(&self, slot: u32) -> bool
+        requires { slot < 64 }
+        ensures { result ≡ can_run self.now.whole (runner_at self.now.runners slot) }
+    {
+        let Some(runner) = self.runners.at(slot) else {
+            return false;
+        };
+        match runner.cursor().phase() {
+            Phase::Before | Phase::At | Phase::Leaving { .. } => true,
+            Phase::Waiting { part } => self.whole.ready(runner.id(), self.whole.moment(), part),
+            Phase::Ended => false,
+        }
+    }
+
+    /// Where the task in a slot waits, though it was deleted: the line, and the part.
+    fn lost(&self, slot: u32) -> Option<(u32, u32)>
+        requires { slot < 64 }
+        ensures { MatchOption result
+            (is_lost self.now.whole (runner_at self.now.runners slot) ≡ false)
+            (λ at. IsLostIn self.now.whole (runner_at self.now.runners slot) at.1) }
+    {
+        let runner = self.runners.at(slot)?;
+        let Phase::Waiting { part } = runner.cursor().phase() else {
+            return None;
+        };
+        if self.whole.goes(runner.id()) {
+            return None;
+        }
+        let line = match runner.cursor().line() {
+            Some(line) => line.number,
+            None => 0,
+        };
+        Some((line, part))
+    }
+
+    /// Makes a call of the task in a slot, which passes the gate first, and goes on by its entry.
+    fn take<G: Gate>(
+        &mut self,
+        alloc: Global,
+        app: &'a App,
+        gate: &G,
+        journal: &mut Journal,
+        slot: u32,
+        line: u32,
+        call: Call,
+    ) -> Result<(), OutOfMemory>
+        requires within { slot < 64 }
+        requires driven { IsDriven app.now (drive_of journal.old self.old.whole self.old.runners) }
+        requires may { MayMake self.old.whole (runner_at self.old.runners slot) call }
+        requires creates { MayCreate app.now journal.old.entries call }
+        ensures driven { OnOk result (IsDriven app.now (drive_of journal.new self.new.whole self.new.runners)) }
+        ensures taken { OnOk result (Takes app.now slot call
+            (drive_of journal.old self.old.whole self.old.runners)
+            (drive_of journal.new self.new.whole self.new.runners)) }
+        ensures memory { OnErr result (journal.new.entries ≡ journal.old.entries) }
+    {
+        let id = match self.runners.at(slot) {
+            Some(runner) => runner.id(),
+            None => unreachable!(),
+        };
+        gate.pass(id, line);
+        let made = entry_of(alloc, &mut self.whole, &mut self.room, slot + 1, id, call)?;
+        self.runners.follow(slot, &made);
+        self.runners.admit(app, &made);
+        journal.push(made);
+        Ok(())
+    }
+
+    /// Makes the next call of the task in a slot.
+    fn go_on<G: Gate>(
+        &mut self,
+        alloc: Global,
+        app: &'a App,
+        gate: &G,
+        journal: &mut Journal,
+        slot: u32,
+    ) -> Result<(), OutOfMemory>
+        requires within { slot < 64 }
+        requires steady { IsSteady app.now (drive_of journal.old self.old.whole self.old.runners) }
+        requires ready { can_run self.old.whole (runner_at self.old.runners slot) ≡ true }
+        ensures steady { OnOk result (IsSteady app.now (drive_of journal.new self.new.whole self.new.runners)) }
+        ensures grown { OnOk result (length journal.old.entries < length journal.new.entries) }
+        ensures memory { OnErr result (journal.new.entries ≡ journal.old.entries) }
+    {
+        let step = match self.runners.at(slot) {
+            Some(runner) => runner.cursor().step(alloc)?,
+            None => unreachable!(),
+        };
+        match step {
+            Step::Make { line, call } => self.take(alloc, app, gate, journal, slot, line, call),
+            Step::Finished => unreachable!(),
+        }
+    }
+
+    /// Ends the wait of the deleted task in a slot: a checkpoint tells it, and the wait is given up.
+    fn leave<G: Gate>(
+        &mut self,
+        alloc: Global,
+        app: &'a App,
+        gate: &G,
+        journal: &mut Journal,
+        slot: u32,
+        line: u32,
+        part: u32,
+    ) -> Result<(), OutOfMemory>
+        requires within { slot < 64 }
+        requires steady { IsSteady app.now (drive_of journal.old self.old.whole self.old.runners) }
+        requires lost { IsLostIn self.old.whole (runner_at self.old.runners slot) part }
+        ensures steady { OnOk result (IsSteady app.now (drive_of journal.new self.new.whole self.new.runners)) }
+        ensures grown { OnOk result (length journal.old.entries < length journal.new.entries) }
+        ensures memory { OnErr result (IsPartRun app.now journal.new.entries) }
+    {
+        self.take(alloc, app, gate, journal, slot, line, Call::Checkpoint)?;
+        let call = Call::WaitAbandon { part };
+        self.take(alloc, app, gate, journal, slot, line, call)
+    }
+
+    /// The part of the task in a slot of a round: its script goes on until it ends or waits.
+    fn run<G: Gate>(
+        &mut self,
+        alloc: Global,
+        app: &'a App,
+        gate: &G,
+        journal: &mut Journal,
+        slot: u32,
+    ) -> Result<(), OutOfMemory>
+        requires within { slot < 64 }
+        requires steady { IsSteady app.now (drive_of journal.old self.old.whole self.old.runners) }
+        ensures steady { OnOk result (IsSteady app.now (drive_of journal.new self.new.whole self.new.runners)) }
+        ensures still { OnOk result (Since
+            (drive_of journal.old self.old.whole self.old.runners)
+            (drive_of journal.new self.new.whole self.new.runners)
+            (can_run self.old.whole (runner_at self.old.runners slot) ≡ false)) }
+        ensures memory { OnErr result (IsPartRun app.now journal.new.entries) }
+    {
+        while self.can_run(slot) {
+            self.go_on(alloc, app, gate, journal, slot)?;
+        }
+        Ok(())
+    }
+
+    /// Ends the wait of each deleted task that waits, in the order of their slots.
+    fn leave_all<G: Gate>(
+        &mut self,
+        alloc: Global,
+        app: &'a App,
+        gate: &G,
+        journal: &mut Journal,
+    ) -> Result<(), OutOfMemory>
+        requires steady { IsSteady app.now (drive_of journal.old self.old.whole self.old.runners) }
+        ensures steady { OnOk result (IsSteady app.now (drive_of journal.new self.new.whole self.new.runners)) }
+        ensures still { OnOk result (Since
+            (drive_of journal.old self.old.whole self.old.runners)
+            (drive_of journal.new self.new.whole self.new.runners)
+            (NoneIsLost self.old.whole self.old.runners 64)) }
+        ensures memory { OnErr result (IsPartRun app.now journal.new.entries) }
+    {
+        for slot in 0..SLOTS {
+            if let Some((line, part)) = self.lost(slot) {
+                self.leave(alloc, app, gate, journal, slot, line, part)?;
+            }
+        }
+        Ok(())
+    }
+
+    /// Which tasks go on at once, by their slots.
+    fn members(&self) -> [bool; 64]
+        ensures { AreMembers self.now.whole self.now.runners result 64 }
+    {
+        let mut members = [false; 64];
+        for slot in 0..SLOTS {
+            members[slot as usize] = self.can_run(slot);
+        }
+        members
+    }
+
+    /// A round: the tasks that go on at its start, in the order of their slots, each as far as it goes.
+    fn round<G: Gate>(
+        &mut self,
+        alloc: Global,
+        app: &'a App,
+        gate: &G,
+        journal: &mut Journal,
+    ) -> Result<(), OutOfMemory>
+        requires steady { IsSteady app.now (drive_of journal.old self.old.whole self.old.runners) }
+        ensures steady { OnOk result (IsSteady app.now (drive_of journal.new self.new.whole self.new.runners)) }
+        ensures still { OnOk result (Since
+            (drive_of journal.old self.old.whole self.old.runners)
+            (drive_of journal.new self.new.whole self.new.runners)
+            (NoneRuns self.old.whole self.old.runners 64)) }
+        ensures memory { OnErr result (IsPartRun app.now journal.new.entries) }
+    {
+        let members = self.members();
+        for slot in 0..SLOTS {
+            if members[slot as usize] {
+                self.run(alloc, app, gate, journal, slot)?;
+            }
+        }
+        Ok(())
+    }
+
+    /// Makes time go on.
+    fn advance(&mut self, alloc: Global, journal: &mut Journal, to: u64) -> Result<(), OutOfMemory>
+        requires { 0 < journal.old.spare }
+        ensures made { OnOk result (AddsEntry 0 0 (Advance to) self.old.whole self.new.whole journal.old journal.new) }
+        ensures runners { self.new.runners ≡ self.old.runners }
+        ensures memory { OnErr result (journal.new.entries ≡ journal.old.entries) }
+    {
+        let call = Call::Advance { to };
+        let made = entry_of(
+            alloc,
+            &mut self.whole,
+            &mut self.room,
+            0,
+            OsalId::UNDEFINED,
+            call,
+        )?;
+        journal.push(made);
+        Ok(())
+    }
+
+    /// What comes between two rounds and the round, or else the next moment. It answers false where the run is settled.
+    pub(crate) fn turn<G: Gate>(
+        &mut self,
+        alloc: Global,
+        app: &'a App,
+        gate: &G,
+        journal: &mut Journal,
+    ) -> Result<bool, OutOfMemory>
+        requires { IsSteady app.now (drive_of journal.old self.old.whole self.old.runners) }
+        ensures turned { IfOk result (λ more. HasTurned app.now
+            (drive_of journal.old self.old.whole self.old.runners)
+            (drive_of journal.new self.new.whole self.new.runners)
+            more) }
+        ensures memory { OnErr result (IsPartRun app.now journal.new.entries) }
+    {
+        let before = journal.len();
+        self.leave_all(alloc, app, gate, journal)?;
+        self.round(alloc, app, gate, journal)?;
+        if before < journal.len() {
+            return Ok(true);
+        }
+        let Some(to) = self.whole.next_deadline() else {
+            return Ok(false);
+        };
+        self.advance(alloc, journal, to)?;
+        Ok(true)
+    }
+
+    /// The first entry: the machine creates the first body's task, under the body's own name.
+    pub(crate) fn begin(
+        &mut self,
+        alloc: Global,
+        app: &'a App,
+        journal: &mut Journal,
+    ) -> Result<(), OutOfMemory>
+        requires machine { self.old.whole ≡ opening version1 }
+        requires runners { self.old.runners ≡ replicate 64 None }
+        requires empty { journal.old.entries ≡ [] }
+        requires room { cost_of app.now ≤ journal.old.spare }
+        ensures steady { OnOk result (IsSteady app.now (drive_of journal.new self.new.whole self.new.runners)) }
+        ensures memory { OnErr result (journal.new.entries ≡ []) }
+    {
+        let call = Call::TaskCreate {
+            name: Bytes::copy(alloc, app.main().name().as_slice())?,
+            body: 0,
+            stack: 0,
+            priority: 0,
+        };
+        let made = entry_of(
+            alloc,
+            &mut self.whole,
+            &mut self.room,
+            0,
+            OsalId::UNDEFINED,
+            call,
+        )?;
+        self.runners.admit(app, &made);
+        journal.push(made);
+        Ok(())
+    }
+}

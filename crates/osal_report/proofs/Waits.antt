@@ -1,0 +1,127 @@
+-- A wait is open at the end of a run where the script of some task stalls.
+use Rattle.std.proofs.Common.{◌≡◌, ◌⊎◌, ◌==◌, ◌||◌, List, [], ◌∷◌, ℕ, Bool, true, false, cond, is_some, find, inl, inr, refl, sym, ap, ◌∙◌, ⊎_elim}
+use Rattle.std.proofs.lemmas.Bool.{cases_Bool, eq-eqb}
+use Rattle.osal_idtable.specs.declared.waits.WaitRecord.{WaitRecord}
+use Rattle.osal_idtable.specs.Waits.{is_of as is_wait_of}
+use Rattle.osal_machine.specs.Step.{MachineState}
+use Rattle.osal_script.specs.declared.phase.Phase.{Phase}
+use Rattle.osal_script.specs.declared.phase.Phase.TheVariants as phase
+use Rattle.osal_script.specs.App.{Application}
+use Rattle.osal_script.specs.Script.{ScriptState, is_ended}
+use Rattle.osal_script.specs.Segments.{Segment, script_in, has_segment, is_of}
+use Rattle.osal_script.specs.Runs.{EndsBefore}
+use Rattle.osal_script.specs.Linked.{no_script, newest_script, waits_in, waits_well, IsLinked}
+use Rattle.osal_script.proofs.Segments.{newest_none}
+use Rattle.osal_report.specs.Report.{is_stalled}
+use Rattle.osal_report.specs.Ends.{stalls, some_stalls}
+use Rattle.osal_report.specs.Status.{is_some_of, has_open_waits}
+
+or_true : (a b : Bool) → (a || b) ≡ true → (a ≡ true) ⊎ (b ≡ true)
+or_true true b e = inl refl
+or_true false b e = inr e
+
+or_left : (a b : Bool) → a ≡ true → (a || b) ≡ true
+or_left a b e = rw e refl
+
+or_right : (a b : Bool) → b ≡ true → (a || b) ≡ true
+or_right true b e = refl
+or_right false b e = e
+
+same_answer : (a b : Bool) → (a ≡ true → b ≡ true) → (b ≡ true → a ≡ true) → a ≡ b
+same_answer true b there back = sym (there refl)
+same_answer false true there back = back refl
+same_answer false false there back = refl
+
+-- a script that waits in a part stalls
+stalls_waiting : (part : ℕ) (at : Phase) → waits_in part at ≡ true → is_stalled at ≡ true
+stalls_waiting part (phase.Waiting other) e = refl
+stalls_waiting part (phase.Leaving other) e = refl
+stalls_waiting part phase.Before e = cc
+stalls_waiting part phase.At e = cc
+stalls_waiting part phase.Ended e = cc
+
+-- one that stalls waits in a part that has calls that wait
+waits_stalled : (at : Phase) → waits_well at ≡ true → is_stalled at ≡ true → (waits_in 0 at ≡ true) ⊎ (waits_in 3 at ≡ true)
+waits_stalled (phase.Waiting part) well e = or_true (part == 0) (part == 3) well
+waits_stalled (phase.Leaving part) well e = or_true (part == 0) (part == 3) well
+waits_stalled phase.Before well e = absurd (cc)
+waits_stalled phase.At well e = absurd (cc)
+waits_stalled phase.Ended well e = absurd (cc)
+
+not_both : (at : Phase) → is_ended at ≡ true → is_stalled at ≡ true → ⊥
+not_both (phase.Waiting part) ended e = cc
+not_both (phase.Leaving part) ended e = cc
+not_both phase.Before ended e = cc
+not_both phase.At ended e = cc
+not_both phase.Ended ended e = cc
+
+found_step : (segment : Segment) (segments : List Segment) (newest : ScriptState) (has own : Bool) → (is_stalled newest.phase ≡ true → some_stalls segments ≡ true) → is_stalled (cond has newest (cond own (script_in segment) no_script)).phase ≡ true → (stalls segment || some_stalls segments) ≡ true
+found_step segment segments newest true own rest e = or_right (stalls segment) (some_stalls segments) (rest e)
+found_step segment segments newest false true rest e = or_left (stalls segment) (some_stalls segments) e
+found_step segment segments newest false false rest e = absurd (cc)
+
+-- where the newest script of an identifier stalls, some segment's does
+stalls_found : (segments : List Segment) (id : ℕ) → is_stalled (newest_script segments id).phase ≡ true → some_stalls segments ≡ true
+stalls_found [] id e = cc
+stalls_found (segment ∷ segments) id e =
+    found_step segment segments (newest_script segments id) (has_segment segments id) (is_of id segment) (stalls_found segments id) e
+
+own_newest : (segment : Segment) (segments : List Segment) → has_segment segments segment.id ≡ false → newest_script (segment ∷ segments) segment.id ≡ script_in segment
+own_newest segment segments none =
+    let own : (segment.id == segment.id) ≡ true = eq-eqb segment.id segment.id refl in rw (none, own) refl
+
+other_newest : (segment : Segment) (segments : List Segment) (id : ℕ) → has_segment segments id ≡ true → newest_script (segment ∷ segments) id ≡ newest_script segments id
+other_newest segment segments id has = rw has refl
+
+-- a segment that stalls is the newest of its identifier, since any other has come to its end
+newest_stalls : (segments : List Segment) → EndsBefore segments → some_stalls segments ≡ true → (id : ℕ) × (is_stalled (newest_script segments id).phase ≡ true)
+newest_stalls [] ends e = absurd (cc)
+newest_stalls (segment ∷ segments) ends e =
+    elim (or_true (stalls segment) (some_stalls segments) e) [
+      | inl own ↦
+          elim (cases_Bool (has_segment segments segment.id)) [
+            | inl has ↦ absurd (not_both (script_in segment).phase (ends.0 has) own)
+            | inr none ↦ (segment.id, ap (λ (s : ScriptState). is_stalled s.phase) (own_newest segment segments none) ∙ own)
+          ]
+      | inr others ↦
+          let found = newest_stalls segments ends.1 others in
+          elim (cases_Bool (has_segment segments found.0)) [
+            | inl has ↦ (found.0, ap (λ (s : ScriptState). is_stalled s.phase) (other_newest segment segments found.0 has) ∙ found.1)
+            | inr none ↦
+                let ended : is_stalled (newest_script segments found.0).phase ≡ false = ap (λ (s : ScriptState). is_stalled s.phase) (newest_none segments found.0 none) in
+                absurd (let stalled = found.1 in cc)
+          ]
+    ]
+
+module _ {W : Type 0} where
+  some_of_found : (task : ℕ) (waits : List (WaitRecord W)) → is_some (find (is_wait_of task) waits) ≡ true → is_some_of waits ≡ true
+  some_of_found task [] e = cc
+  some_of_found task (wait ∷ waits) e = refl
+
+  found_first : (wait : WaitRecord W) (waits : List (WaitRecord W)) → is_some (find (is_wait_of wait.task) (wait ∷ waits)) ≡ true
+  found_first wait waits = rw (eq-eqb wait.task wait.task refl) refl
+
+  -- the script of a task that has an open wait stalls
+  stalls_open : (part : ℕ) (waits : List (WaitRecord W)) (segments : List Segment) → ((task : ℕ) → is_some (find (is_wait_of task) waits) ≡ waits_in part (newest_script segments task).phase) → is_some_of waits ≡ true → some_stalls segments ≡ true
+  stalls_open part [] segments each e = absurd (cc)
+  stalls_open part (wait ∷ waits) segments each e =
+      stalls_found segments wait.task (stalls_waiting part (newest_script segments wait.task).phase (sym (each wait.task) ∙ found_first wait waits))
+
+-- a wait is open exactly where a script stalls
+pub open_where_stalls : (app : Application) (state : MachineState) (segments : List Segment) → IsLinked app state segments → EndsBefore segments → has_open_waits state ≡ some_stalls segments
+open_where_stalls app state segments linked ends =
+    let delays = state.tasks.objects.waits.records in
+    let takes = state.bin_sems.objects.waits.records in
+    same_answer (has_open_waits state) (some_stalls segments)
+    (λ is_open.
+    ⊎_elim
+    (stalls_open 0 delays segments (λ task. (linked.each task).delay))
+    (stalls_open 3 takes segments (λ task. (linked.each task).take))
+    (or_true (is_some_of delays) (is_some_of takes) is_open))
+    (λ some.
+    let found = newest_stalls segments ends some in
+    let each = linked.each found.0 in
+    ⊎_elim
+    (λ waits. or_left (is_some_of delays) (is_some_of takes) (some_of_found found.0 delays (each.delay ∙ waits)))
+    (λ waits. or_right (is_some_of delays) (is_some_of takes) (some_of_found found.0 takes (each.take ∙ waits)))
+    (waits_stalled (newest_script segments found.0).phase each.part found.1))

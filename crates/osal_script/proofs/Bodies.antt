@@ -1,0 +1,105 @@
+-- The costs of the bodies, from the last to the first, as 64 bits tell them.
+use Rattle.std.proofs.Common.{◌≡◌, ◌<◌, ◌≤◌, ◌+◌, ◌-◌, ◌∙◌, ℕ, zero, suc, List, [], ◌∷◌, Some, length, take, drop, get_or, set, map, slice_index, slice_get, refl, sym, ap, subst, zero-add, arith}
+use Rattle.std.proofs.lemmas.List.{get_or-take, get_or-drop, drop-set}
+use Rattle.std.specs.List.{AllByRecursion}
+use Rattle.osal_script.specs.declared.app.ScriptCall.{ScriptCall}
+use Rattle.osal_script.specs.declared.app.ScriptCall.TheVariants as script
+use Rattle.osal_script.specs.declared.app.Item.{Item}
+use Rattle.osal_script.specs.declared.app.Item.TheVariants as item
+use Rattle.osal_script.specs.App.{ScriptBody, NamesBetween, ItemNames, NamesLaterFrom}
+use Rattle.osal_script.specs.Cost.{onto_cost, level_costs, line_cost, first_cost, costs_from}
+use Rattle.osal_script.specs.Saturated.{saturated, onto_saturated, repeated_saturated}
+use Rattle.osal_script.proofs.Lists.{begins_with}
+use Rattle.osal_script.proofs.Costs.{saturated-repeated, saturated_sum}
+
+saturated-onto : (cost : ℕ) (levels : List ℕ) → map saturated (onto_cost cost levels) ≡ onto_saturated (saturated cost) (map saturated levels)
+saturated-onto cost [] = ap (λ (x : ℕ). x ∷ []) (omega arith)
+saturated-onto cost (level ∷ levels) = ap (λ (x : ℕ). x ∷ map saturated levels) (sym (saturated_sum cost level))
+
+-- two ways to tell what the bodies cost agree, by what 64 bits tell, on those that a body may name
+abbrev pub Agree : ℕ → ℕ → (ℕ → ℕ) → (ℕ → ℕ) → Type 0
+Agree number count costs others = (other : ℕ) → number < other → other < count → saturated (costs other) ≡ saturated (others other)
+
+same_line : (number count : ℕ) (costs others : ℕ → ℕ) (made : ScriptCall) → Agree number count costs others → NamesBetween number count made → saturated (line_cost costs made) ≡ saturated (line_cost others made)
+same_line number count costs others (script.TaskCreate register name body stack priority) agree names =
+    let same : saturated (costs body) ≡ saturated (others body) = agree body names.0 names.1 in
+    omega arith
+same_line number count costs others other agree names = refl
+
+-- then the levels cost the same
+same_levels : (number count : ℕ) (costs others : ℕ → ℕ) (items : List Item) → Agree number count costs others → AllByRecursion (ItemNames number count) items → map saturated (level_costs costs items) ≡ map saturated (level_costs others items)
+same_levels number count costs others [] agree names = refl
+same_levels number count costs others (item.Call line ∷ items) agree names =
+    saturated-onto (line_cost costs line.call) (level_costs costs items)
+    ∙ ap (λ (x : ℕ). onto_saturated x (map saturated (level_costs costs items))) (same_line number count costs others line.call agree names.0)
+    ∙ ap (onto_saturated (saturated (line_cost others line.call))) (same_levels number count costs others items agree names.1)
+    ∙ sym (saturated-onto (line_cost others line.call) (level_costs others items))
+same_levels number count costs others (item.Repeat times ∷ items) agree names =
+    sym (saturated-repeated times (level_costs costs items))
+    ∙ ap (repeated_saturated times) (same_levels number count costs others items agree names.1)
+    ∙ saturated-repeated times (level_costs others items)
+same_levels number count costs others (item.End ∷ items) agree names =
+    ap (λ (levels : List ℕ). saturated 0 ∷ levels) (same_levels number count costs others items agree names.1)
+
+first-saturated : (costs : List ℕ) → first_cost (map saturated costs) ≡ saturated (first_cost costs)
+first-saturated [] = refl
+first-saturated (cost ∷ costs) = refl
+
+get_or-saturated : (costs : List ℕ) (i : ℕ) → get_or (map saturated costs) i 0 ≡ saturated (get_or costs i 0)
+get_or-saturated [] i = refl
+get_or-saturated (cost ∷ costs) zero = refl
+get_or-saturated (cost ∷ costs) (suc i) = get_or-saturated costs i
+
+names_from : (from count k : ℕ) (bodies : List ScriptBody) (body : ScriptBody) → NamesLaterFrom from count bodies → slice_get bodies k ≡ Some body → AllByRecursion (ItemNames (from + k) count) body.items
+names_from from count k [] body later is = cc
+names_from from count zero (first ∷ bodies) body later is =
+    let same : first ≡ body = cc in
+    let here : from ≡ from + 0 = omega arith in
+    subst (λ (n : ℕ). AllByRecursion (ItemNames n count) body.items) here (subst (λ (one : ScriptBody). AllByRecursion (ItemNames from count) one.items) same later.0)
+names_from from count (suc k) (first ∷ bodies) body later is =
+    let here : from + 1 + k ≡ from + suc k = omega arith in
+    subst (λ (n : ℕ). AllByRecursion (ItemNames n count) body.items) here (names_from (from + 1) count k bodies body later.1 is)
+
+-- what the code keeps: the costs of the bodies from a number on
+abbrev pub HaveCosts : List ℕ → ℕ → List ScriptBody → Type 0
+HaveCosts costs number bodies =
+    take (length bodies - number) (drop number costs) ≡ map saturated (costs_from number (drop number bodies))
+
+reads : (costs exact : List ℕ) (number more other : ℕ) → take more (drop number costs) ≡ map saturated exact → number ≤ other → other - number < more → get_or costs other 0 ≡ saturated (get_or exact (other - number) 0)
+reads costs exact number more other have from within =
+    let there : number + (other - number) ≡ other = omega arith in
+    sym (ap (λ (n : ℕ). get_or costs n 0) there)
+    ∙ sym (get_or-drop number costs (other - number) 0)
+    ∙ sym (get_or-take more (drop number costs) (other - number) 0 within)
+    ∙ ap (λ (told : List ℕ). get_or told (other - number) 0) have
+    ∙ get_or-saturated exact (other - number)
+
+saturated_twice : (cost other : ℕ) → cost ≡ saturated other → saturated cost ≡ saturated other
+saturated_twice cost other same = omega arith
+
+two_more : (told cost : ℕ) → told ≡ saturated cost → saturated (told + 2) ≡ saturated (cost + 2)
+two_more told cost same = omega arith
+
+-- one body more
+pub one_cost : (costs : List ℕ) (number : ℕ) (bodies : List ScriptBody) (body : ScriptBody) → length bodies ≤ length costs → NamesLaterFrom 0 (length bodies) bodies → slice_get bodies number ≡ Some body → HaveCosts costs (number + 1) bodies → HaveCosts (set costs number (saturated (saturated (first_cost (level_costs (slice_index costs) body.items)) + 2))) number bodies
+one_cost costs number bodies body room later is have =
+    let count = length bodies in
+    let here = begins_with bodies number body is in
+    let rest = costs_from (number + 1) (drop (number + 1) bodies) in
+    let exact = λ (other : ℕ). slice_index rest (other - (number + 1)) in
+    let names = subst (λ (n : ℕ). AllByRecursion (ItemNames n count) body.items) (zero-add number) (names_from 0 count number bodies body later is) in
+    let agree : Agree number count (slice_index costs) exact =
+    λ (other : ℕ) behind below. saturated_twice _ _ (reads costs rest (number + 1) (count - (number + 1)) other have (omega arith) (omega arith)) in
+    let levels = same_levels number count (slice_index costs) exact body.items agree names in
+    let told : saturated (first_cost (level_costs (slice_index costs) body.items)) ≡ saturated (first_cost (level_costs exact body.items)) =
+    sym (first-saturated (level_costs (slice_index costs) body.items))
+    ∙ ap first_cost levels
+    ∙ first-saturated (level_costs exact body.items) in
+    let one = two_more _ (first_cost (level_costs exact body.items)) told in
+    let more : count - number ≡ suc (count - (number + 1)) = omega (arith, here.0) in
+    let cost = saturated (saturated (first_cost (level_costs (slice_index costs) body.items)) + 2) in
+    ap (take (count - number)) (drop-set costs number cost (omega (arith, here.0)))
+    ∙ ap (λ (n : ℕ). take n (cost ∷ drop (number + 1) costs)) more
+    ∙ ap (λ (costs_behind : List ℕ). cost ∷ costs_behind) have
+    ∙ ap (λ (first : ℕ). first ∷ map saturated rest) one
+    ∙ sym (ap (λ (from : List ScriptBody). map saturated (costs_from number from)) here.1)

@@ -1,0 +1,77 @@
+-- How many open waits have a deadline behind a moment.
+use Rattle.std.proofs.Common.{◌≡◌, ◌≤◌, ◌+◌, ◌++◌, ℕ, Bool, false, List, [], ◌∷◌, length, map, filter, nat_lt, Option, Some, None, length-append, refl, ap, ◌∙◌, arith}
+use Rattle.std.proofs.lemmas.Bool.{cond_both, true≢false}
+use Rattle.osal_base.specs.declared.time.Moment.{Moment}
+use Rattle.osal_base.specs.declared.time.Timeout.{Timeout}
+use Rattle.osal_base.specs.declared.time.Timeout.TheVariants as timeout
+use Rattle.osal_base.specs.Time.{is_check, later, deadline_of}
+use Rattle.osal_idtable.specs.declared.waits.WaitRecord.{WaitRecord}
+use Rattle.osal_idtable.specs.Waits.{WaitsState, with_wait, without_wait, released_if, released_where}
+use Rattle.osal_script.specs.Cost.{wait_cost}
+use Rattle.osal_script.specs.Waiting.{deadline_above, deadlines_in}
+
+-- how many of the waits have a deadline behind the moment
+abbrev pub due_count : {W : Type 0} → Moment → WaitsState W → ℕ
+due_count now waits = length (deadlines_in now waits.records)
+
+module _ {W : Type 0} (now : Moment) where
+  count_cons : (wait : WaitRecord W) (waits : List (WaitRecord W)) → length (deadlines_in now (wait ∷ waits)) ≡ length (deadline_above now wait.deadline) + length (deadlines_in now waits)
+  count_cons wait waits = length-append (deadline_above now wait.deadline) (deadlines_in now waits)
+
+  count_push : (waits : List (WaitRecord W)) (wait : WaitRecord W) → length (deadlines_in now (waits ++ wait ∷ [])) ≡ length (deadlines_in now waits) + length (deadline_above now wait.deadline)
+  count_push [] wait = count_cons wait [] ∙ (omega arith)
+  count_push (first ∷ waits) wait = let rest = count_push waits wait in let more = count_cons first (waits ++ wait ∷ []) in let less = count_cons first waits in omega arith
+
+  count_filter : (keep : WaitRecord W → Bool) (waits : List (WaitRecord W)) → length (deadlines_in now (filter keep waits)) ≤ length (deadlines_in now waits)
+  count_filter keep [] = omega arith
+  count_filter keep (wait ∷ waits) =
+      let rest = count_filter keep waits in
+      cond_both (keep wait) _ _ (λ (list : List (WaitRecord W)). length (deadlines_in now list) ≤ length (deadlines_in now (wait ∷ waits)))
+      (λ t. omega (arith, count_cons wait (filter keep waits), count_cons wait waits))
+      (λ f. omega (arith, count_cons wait waits))
+
+  same_deadline : (test : WaitRecord W → Bool) (wait : WaitRecord W) → (released_if test wait).deadline ≡ wait.deadline
+  same_deadline test wait = cond_both (test wait) _ _ (λ (w : WaitRecord W). w.deadline ≡ wait.deadline) (λ t. refl) (λ f. refl)
+
+  count_map : (test : WaitRecord W → Bool) (waits : List (WaitRecord W)) → deadlines_in now (map (released_if test) waits) ≡ deadlines_in now waits
+  count_map test [] = refl
+  count_map test (wait ∷ waits) = λ i. deadline_above now (same_deadline test wait i) ++ count_map test waits i
+
+  -- a wait that is released keeps its deadline
+  pub count_released : (waits : WaitsState W) (test : WaitRecord W → Bool) → due_count now (released_where waits test) ≤ due_count now waits
+  count_released waits test = omega (arith, ap length (count_map test waits.records))
+
+  -- without the wait of a task there are no more
+  pub count_without : (waits : WaitsState W) (task : ℕ) → due_count now (without_wait waits task) ≤ due_count now waits
+  count_without waits task = count_filter _ waits.records
+
+  -- with one more wait there is one more at most
+  pub count_with : (waits : WaitsState W) (wait : WaitRecord W) → due_count now (with_wait waits wait) ≡ due_count now waits + length (deadline_above now wait.deadline)
+  count_with waits wait = count_push waits.records wait
+
+-- a wait has one deadline at most
+pub above_one : (now : Moment) (o : Option Moment) → length (deadline_above now o) ≤ 1
+above_one now None = omega arith
+above_one now (Some deadline) = cond_both (nat_lt now.ms deadline.ms) _ _ (λ (list : List ℕ). length list ≤ 1) (λ t. omega arith) (λ f. omega arith)
+
+-- a wait was begun: its cost pays its end, and the deadline where it has one
+pub record IsPaid {W : Type 0} (old new : WaitsState W) (cost : ℕ) : Type 0 where
+  pub some : 1 ≤ cost
+  pub more : (now : Moment) → due_count now new + 1 ≤ due_count now old + cost
+
+-- the cost of a wait with this deadline is no less than its end and its deadline
+abbrev pub Pays : Option Moment → ℕ → Type 0
+Pays o cost = (now : Moment) → length (deadline_above now o) + 1 ≤ cost
+
+-- a wait among the others is paid for by its cost
+pub paid_with : {W : Type 0} (waits : WaitsState W) (wait : WaitRecord W) (cost : ℕ) → Pays wait.deadline cost → IsPaid waits (with_wait waits wait) cost
+paid_with waits wait cost pays = record {
+  some = omega (arith, pays (record { ms = 0 }));
+  more = λ now. omega (arith, count_with now waits wait, pays now);
+}
+
+-- a wait that may not be refused pays
+pub pays_timeout : (wait : Timeout) (now : Moment) → is_check wait ≡ false → Pays (deadline_of wait now) (wait_cost wait)
+pays_timeout timeout.Check now waits = absurd (true≢false waits)
+pays_timeout timeout.Pend now waits = λ at. omega arith
+pays_timeout (timeout.Ms ms) now waits = λ at. rw waits (omega (arith, above_one at (Some (later now ms))))

@@ -1,0 +1,56 @@
+use crate::*;
+use std::alloc::Global;
+use std::process::Abort;
+use std::test::Fail;
+
+/// The application with these lines in its main body, and one more body, which waits three times.
+fn app_of(rt: &impl Abort, alloc: Global, lines: &str) -> Result<App, Fail> {
+    let mut text = Vec::from_slice(alloc, b"osal-app 1\ntask main\n".as_slice())?;
+    text.extend_from_slice(lines.as_bytes())?;
+    text.extend_from_slice(
+        b"\nend\ntask w\nbin_sem_take $s check\nbin_sem_take $s pend\ntask_delay 5 -> -4\nend\n".as_slice(),
+    )?;
+    assert!(rt; text.len() < 1000000);
+    match parse(alloc, text.as_slice()) {
+        Ok(app) => Ok(app),
+        Err(_) => panic!(rt; "{lines}"),
+    }
+}
+
+const COSTS: [(&str, u64); 4] = [
+    ("task_create $t \"t\" w 0 1\ntask_delay 0", 26),
+    (
+        "repeat 2\nrepeat 2\nrepeat 2\ntask_create $t \"t\" w 0 1\nend\nend\ntask_delay 0\nend",
+        175,
+    ),
+    (
+        "repeat 100\nrepeat 100\nrepeat 100\ntask_create $t \"t\" w 0 1\nend\nend\ntask_delay 0\nend",
+        21_000_203,
+    ),
+    (
+        "repeat 100000\nrepeat 100000\nrepeat 100000\nrepeat 100000\ntask_exit\nend\nend\nend\nend",
+        u64::MAX,
+    ),
+];
+
+#[test]
+fn each_turn_each_task_and_each_wait_costs(rt: HostRuntime) -> Result<(), Fail> {
+    for (lines, cost) in COSTS {
+        let app = app_of(&rt, rt.alloc(), lines)?;
+        assert_eq!(rt; app.cost(), cost, "{lines}");
+    }
+    Ok(())
+}
+
+#[test]
+fn an_expectation_is_found_by_its_line(rt: HostRuntime) -> Result<(), Fail> {
+    let lines = "task_create $t \"t\" w 0 1\nrepeat 3\ntask_delay 0 -> -3\nend";
+    let app = app_of(&rt, rt.alloc(), lines)?;
+    for (line, code) in [(3, 0), (5, -3), (9, 0), (11, -4), (12, 0)] {
+        match app.expectation(line) {
+            Some(expect) => assert_eq!(rt; expect.code, code, "at {line}"),
+            None => assert_eq!(rt; 0, code, "at {line}"),
+        }
+    }
+    Ok(())
+}

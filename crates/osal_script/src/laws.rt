@@ -1,0 +1,13 @@
+//! What holds of every run of an application, as clauses of functions that do nothing.
+ghost use Rattle.osal_script.specs.Linked.{OpenWaitsAreScripts};
+ghost use Rattle.osal_script.specs.CostLaw.{CostBounds};
+
+/// Each open wait is the wait of a task whose script waits, and each script that waits has one.
+pub fn open_waits_are_scripts()
+    ensures { OpenWaitsAreScripts }
+{}
+
+/// A run has no more entries than its application costs.
+pub fn cost_bounds_entries()
+    ensures { CostBounds }
+{}

@@ -1,0 +1,179 @@
+//! A walk along the call lines of a body, with every repeat written out.
+ghost use Rattle.std.specs.Prelude.{◌≡◌, slice_get, option_copied, Some};
+ghost use Rattle.osal_script.specs.declared.app.Item.TheVariants as item;
+ghost use Rattle.osal_script.specs.App.{first_of_levels, levels_of};
+ghost use Rattle.osal_script.specs.Nesting.{IsNested};
+ghost use Rattle.osal_script.specs.Walk.{lines_at, first_of, behind_first};
+ghost use Rattle.osal_script.specs.Place.{IsPlace, IsSettled, IsPassed};
+
+use crate::{Item, Line};
+use std::marker::Model;
+
+/// A repeat that is open: where its items start, and how many turns come behind this one.
+#[derive(Clone, Copy)]
+struct Turn {
+    start: usize,
+    left: u32,
+}
+
+/// A place among items, and the repeats that are open there, the innermost last.
+#[derive(Clone, Copy)]
+struct Place {
+    at: usize,
+    depth: usize,
+    turns: [Turn; 4],
+}
+
+/// The call lines of a body that are still to come.
+#[derive(Drop)]
+pub(crate) struct Walk<'a> {
+    items: &'a [Item],
+    place: Place,
+}
+
+impl<'a> Model for Walk<'a> {
+    ghost use Rattle.std.specs.Prelude.{List};
+    ghost use Rattle.osal_script.specs.declared.app.Line.{Line};
+    ghost use Rattle.osal_script.specs.Walk.{lines_at};
+    ghost use Rattle.osal_script.specs.Place.{IsSettled};
+
+    ghost Value = { List Line };
+
+    ghost view = { λ a. lines_at a.items.now a.place };
+
+    ghost invariant = { λ a. IsSettled a.items.now a.place };
+}
+
+impl<'a> Walk<'a> {
+    /// A walk from the start of the items.
+    pub fn new(items: &'a [Item]) -> Walk<'a>
+        requires { IsNested items.now }
+        ensures { result ≡ first_of_levels (levels_of items.now) }
+    {
+        let start = Place {
+            at: 0,
+            depth: 0,
+            turns: [Turn { start: 0, left: 0 }; 4],
+        };
+        Walk {
+            items,
+            place: settled(items, start),
+        }
+    }
+
+    /// The same walk once more.
+    pub fn copy(&self) -> Walk<'a>
+        ensures { result ≡ self.now }
+    {
+        Walk {
+            items: self.items,
+            place: self.place,
+        }
+    }
+
+    /// The line that comes next, if there is one.
+    pub fn line(&self) -> Option<&'a Line>
+        ensures { option_copied result ≡ first_of self.now }
+    {
+        line_at(self.items, &self.place)
+    }
+
+    /// The walk behind the next line.
+    pub fn behind(&self) -> Walk<'a>
+        ensures { result ≡ behind_first self.now }
+    {
+        Walk {
+            items: self.items,
+            place: place_behind(self.items, &self.place),
+        }
+    }
+}
+
+/// The line at a place.
+fn line_at<'a>(items: &'a [Item], place: &Place) -> Option<&'a Line>
+    requires { IsSettled items.now place.now }
+    ensures { option_copied result ≡ first_of (lines_at items.now place.now) }
+{
+    match items.get(place.at) {
+        Some(Item::Call(line)) => Some(line),
+        Some(Item::Repeat { .. }) | Some(Item::End) | None => None,
+    }
+}
+
+/// The place behind the line at a place.
+fn place_behind(items: &[Item], place: &Place) -> Place
+    requires { IsSettled items.now place.now }
+    ensures within { IsSettled items.now result }
+    ensures lines { lines_at items.now result ≡ behind_first (lines_at items.now place.now) }
+{
+    match items.get(place.at) {
+        Some(Item::Call(_)) => {
+            let next = Place {
+                at: place.at + 1,
+                depth: place.depth,
+                turns: place.turns,
+            };
+            settled(items, next)
+        }
+        Some(Item::Repeat { .. }) | Some(Item::End) | None => *place,
+    }
+}
+
+/// The place at the next call line, or behind the last item.
+fn settled(items: &[Item], mut place: Place) -> Place
+    requires { IsPlace items.now place }
+    ensures within { IsSettled items.now result }
+    ensures lines { lines_at items.now result ≡ lines_at items.now place }
+{
+    loop {
+        match items.get(place.at) {
+            Some(Item::Repeat { count }) => place = entered(items, &place, *count),
+            Some(Item::End) => place = turned(items, &place),
+            Some(Item::Call(_)) | None => return place,
+        }
+    }
+}
+
+/// The place behind the head of the repeat at a place.
+fn entered(items: &[Item], place: &Place, count: u32) -> Place
+    requires place_in { IsPlace items.now place.now }
+    requires here { slice_get items.now place.now.at ≡ Some (item.Repeat count) }
+    ensures { IsPassed items.now place.now result }
+{
+    let mut turns = place.turns;
+    turns[place.depth] = Turn {
+        start: place.at + 1,
+        left: count - 1,
+    };
+    Place {
+        at: place.at + 1,
+        depth: place.depth + 1,
+        turns,
+    }
+}
+
+/// The place behind the end at a place: the start of the repeat's next turn, or what follows the repeat.
+fn turned(items: &[Item], place: &Place) -> Place
+    requires place_in { IsPlace items.now place.now }
+    requires here { slice_get items.now place.now.at ≡ Some item.End }
+    ensures { IsPassed items.now place.now result }
+{
+    let mut turns = place.turns;
+    let turn = turns[place.depth - 1];
+    if turn.left == 0 {
+        return Place {
+            at: place.at + 1,
+            depth: place.depth - 1,
+            turns,
+        };
+    }
+    turns[place.depth - 1] = Turn {
+        start: turn.start,
+        left: turn.left - 1,
+    };
+    Place {
+        at: turn.start,
+        depth: place.depth,
+        turns,
+    }
+}
