@@ -1,5 +1,6 @@
 -- Replies as contracts see them.
 use Rattle.std.specs.Prelude.{List, [], ℕ, Bool, true, false, pos}
+use Rattle.std.specs.Ordering.{int_eq}
 use Rattle.osal_base.specs.declared.status.Status.{Status}
 use Rattle.osal_base.specs.declared.reply.Answer.{Answer}
 use Rattle.osal_base.specs.declared.reply.Answer.TheVariants as answer
@@ -55,3 +56,10 @@ is_waits answer.Waits = true
 is_waits (answer.Code code) = false
 is_waits answer.Go = false
 is_waits answer.Deleted = false
+
+-- whether an answer is success
+abbrev pub is_success : Answer → Bool
+is_success (answer.Code code) = int_eq code (pos 0)
+is_success answer.Waits = false
+is_success answer.Go = false
+is_success answer.Deleted = false

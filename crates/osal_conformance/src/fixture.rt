@@ -1,8 +1,8 @@
 //! A run over one file in memory.
 
-use osal_base::{Bytes, MemShelf, MemSink};
-use osal_exec::FreeGate;
-use osal_machine::Journal;
+use osal_base::{Answer, Bytes, MemShelf, MemSink};
+use osal_exec::{FreeGate, Gate};
+use osal_machine::{Call, Journal};
 use osal_run::run;
 use std::alloc::Global;
 use std::process::Abort;
@@ -48,6 +48,18 @@ pub fn run_words(
     text: &[u8],
     faults: Faults,
 ) -> Result<Ran, Fail> {
+    run_through(rt, alloc, words, text, faults, &FreeGate)
+}
+
+/// The same through a gate.
+pub fn run_through<G: Gate>(
+    rt: &impl Abort,
+    alloc: Global,
+    words: &[&str],
+    text: &[u8],
+    faults: Faults,
+    gate: &G,
+) -> Result<Ran, Fail> {
     let mut files = Vec::new(alloc);
     files.push((String::from_str(alloc, "app")?, Bytes::copy(alloc, text)?))?;
     let twins = MemShelf::has_twins(&files);
@@ -60,14 +72,7 @@ pub fn run_words(
         given.push(String::from_str(alloc, *word)?)?;
     }
     let mut journal = Journal::new(alloc);
-    let status = run(
-        alloc,
-        &given,
-        &mut shelf,
-        &mut sink,
-        &FreeGate,
-        &mut journal,
-    );
+    let status = run(alloc, &given, &mut shelf, &mut sink, gate, &mut journal);
     Ok(Ran {
         status,
         written: Vec::from_slice(alloc, sink.written())?,
@@ -78,4 +83,41 @@ pub fn run_words(
 /// Runs `osal-run app` on this text.
 pub fn run_text(rt: &impl Abort, alloc: Global, text: &[u8]) -> Result<Ran, Fail> {
     run_words(rt, alloc, &["app"], text, NO_FAULTS)
+}
+
+/// An entry: the name of its call, its caller, its task, its moment, its answer and its number.
+pub type Told = (&'static str, u32, u32, u64, Answer, u64);
+
+/// The name of a call that the journals of the rows have.
+fn name_of(call: &Call) -> &'static str {
+    match call {
+        Call::TaskCreate { .. } => "task_create",
+        Call::TaskExit => "task_exit",
+        Call::Checkpoint => "checkpoint",
+        Call::QueueCreate { .. } => "queue_create",
+        Call::QueueGet { .. } => "queue_get",
+        Call::BinSemCreate { .. } => "bin_sem_create",
+        Call::BinSemTake { .. } => "bin_sem_take",
+        Call::Advance { .. } => "advance",
+        Call::WaitEnd { .. } => "wait_end",
+        _ => "another call",
+    }
+}
+
+/// The journal has just these entries, and no reply has bytes.
+pub fn has_entries(rt: &impl Abort, journal: &Journal, wanted: &[Told]) {
+    assert_eq!(rt; journal.entries().len(), wanted.len());
+    for (entry, (name, caller, task, now, answer, number)) in journal
+        .entries()
+        .iter()
+        .zip(wanted.iter())
+    {
+        assert!(rt; name_of(&entry.call) == *name);
+        assert_eq!(rt; entry.caller, *caller);
+        assert_eq!(rt; entry.task.raw(), *task);
+        assert_eq!(rt; entry.now.ms, *now);
+        assert!(rt; entry.reply.answer == *answer);
+        assert_eq!(rt; entry.reply.number, *number);
+        assert_eq!(rt; entry.reply.bytes.as_slice().len(), 0);
+    }
 }

@@ -6,6 +6,14 @@ mod faults;
 #[cfg(test)]
 mod fixture;
 #[cfg(test)]
+mod locks;
+#[cfg(test)]
+mod meeting;
+#[cfg(test)]
+mod queues;
+#[cfg(test)]
 mod rows;
+#[cfg(test)]
+mod semaphores;
 #[cfg(test)]
 mod several;

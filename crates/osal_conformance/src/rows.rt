@@ -1,8 +1,7 @@
 //! Applications with their outputs, to the byte.
 
-use crate::fixture::{NO_FAULTS, run_text, run_words};
+use crate::fixture::{NO_FAULTS, has_entries, run_text, run_words};
 use osal_base::Answer;
-use osal_machine::Call;
 use std::alloc::Global;
 use std::process::Abort;
 use std::test::Fail;
@@ -132,7 +131,7 @@ end
         ),
         (
             "a call that is not built",
-            "osal-app 1\ntask main\nqueue_create $q \"q\" 1 1\nend\n",
+            "osal-app 1\ntask main\ntimebase_create $b \"b\"\nend\n",
             2,
             "osal-run: line 3: unbuilt\n",
         ),
@@ -177,37 +176,15 @@ fn a_full_table_has_no_free_identifier(rt: HostRuntime) -> Result<(), Fail> {
 fn the_journal_has_each_call_with_its_reply(rt: HostRuntime) -> Result<(), Fail> {
     let ran = run_text(&rt, rt.alloc(), FIRST_PATH.as_bytes())?;
     let wanted = [
-        ("task_create", 0, 0, Answer::Code(0), 65537),
-        ("checkpoint", 2, 65537, Answer::Go, 0),
-        ("bin_sem_create", 2, 65537, Answer::Code(0), 262145),
-        ("checkpoint", 2, 65537, Answer::Go, 0),
-        ("bin_sem_take", 2, 65537, Answer::Code(0), 0),
-        ("checkpoint", 2, 65537, Answer::Go, 0),
-        ("task_exit", 2, 65537, Answer::Code(0), 0),
+        ("task_create", 0, 0, 0, Answer::Code(0), 65537),
+        ("checkpoint", 2, 65537, 0, Answer::Go, 0),
+        ("bin_sem_create", 2, 65537, 0, Answer::Code(0), 262145),
+        ("checkpoint", 2, 65537, 0, Answer::Go, 0),
+        ("bin_sem_take", 2, 65537, 0, Answer::Code(0), 0),
+        ("checkpoint", 2, 65537, 0, Answer::Go, 0),
+        ("task_exit", 2, 65537, 0, Answer::Code(0), 0),
     ];
-    assert_eq!(rt; ran.journal.len(), 7);
-    for (entry, (name, caller, task, answer, number)) in ran
-        .journal
-        .entries()
-        .iter()
-        .zip(wanted.iter())
-    {
-        let call = match &entry.call {
-            Call::TaskCreate { .. } => "task_create",
-            Call::TaskExit => "task_exit",
-            Call::Checkpoint => "checkpoint",
-            Call::BinSemCreate { .. } => "bin_sem_create",
-            Call::BinSemTake { .. } => "bin_sem_take",
-            _ => "another call",
-        };
-        assert!(rt; call == *name);
-        assert_eq!(rt; entry.caller, *caller);
-        assert_eq!(rt; entry.task.raw(), *task);
-        assert_eq!(rt; entry.now.ms, 0);
-        assert!(rt; entry.reply.answer == *answer);
-        assert_eq!(rt; entry.reply.number, *number);
-        assert_eq!(rt; entry.reply.bytes.as_slice().len(), 0);
-    }
+    has_entries(&rt, &ran.journal, &wanted);
     Ok(())
 }
 

@@ -1,38 +1,28 @@
 -- Which calls a script allows with the machine's answer.
-use Rattle.std.proofs.Common.{◌≡◌, ◌==◌, ◌<◌, ◌≤◌, ◌||◌, ◌&&◌, ℕ, Bool, true, false, not, cond, eqb, nat_lt, List, [], ◌∷◌, Option, Some, None, is_some, inl, inr, refl, sym, ap, subst, ◌∙◌, arith}
-use Rattle.std.proofs.lemmas.Bool.{cond_both, cases_eq, cases_Bool, cases_lt, false≢true, true≢false, eq-eqb, ne_eqb, eqb-true, lt-ltb, le-ltb, not-true, not-false}
+use Rattle.std.proofs.Common.{◌≡◌, ◌||◌, ◌&&◌, ℕ, Bool, true, false, not, List, [], ◌∷◌, Option, Some, None, is_some, inl, inr, refl, sym, ap, subst, ◌∙◌}
+use Rattle.std.proofs.lemmas.Bool.{cond_both, false≢true, true≢false, not-true, not-false}
 use Rattle.osal_base.specs.declared.reply.Answer.{Answer}
 use Rattle.osal_base.specs.declared.reply.Answer.TheVariants as answer
-use Rattle.osal_base.specs.declared.status.Status.TheVariants as status
-use Rattle.osal_base.specs.declared.time.Moment.{Moment}
-use Rattle.osal_base.specs.Reply.{Replied, is_waits, goes_on, deleted, refusal, success, waits}
-use Rattle.osal_idtable.specs.declared.waits.WaitRecord.{WaitRecord}
+use Rattle.osal_base.specs.Reply.{Replied, is_waits, goes_on, deleted}
 use Rattle.osal_idtable.specs.Table.{Active}
-use Rattle.osal_idtable.specs.Waits.{wait_of, is_due}
 use Rattle.osal_idtable.specs.Objects.{delete_step}
-use Rattle.osal_idtable.specs.Waiting.{end_wait}
+use Rattle.osal_idtable.proofs.WaitSteps.{end_waits}
 use Rattle.osal_task.specs.declared.part.Task.{Task}
-use Rattle.osal_task.specs.Tasks.{TaskState, task_at, passed_by, checkpoint_step, goes, is_unmarked}
-use Rattle.osal_task.specs.Delays.{delayed, wait_end_step}
-use Rattle.osal_sem.specs.Binary as of_sems
-use Rattle.osal_sem.specs.Binary.{BinSemState, taken_by, without_take, with_bin_sem, bin_sem, is_full, bin_sem_at}
+use Rattle.osal_task.specs.Tasks.{TaskState, task_at, passed_by, goes, is_unmarked}
 use Rattle.osal_machine.specs.declared.call.Call.{Call}
 use Rattle.osal_machine.specs.declared.call.Call.TheVariants as call
-use Rattle.osal_machine.specs.Call.{said, part_of, part_of_wait}
-use Rattle.osal_machine.specs.Parts.{PartState, Tasks, BinSems, Time, Absent, part_step}
+use Rattle.osal_machine.specs.Call.{said, part_of}
 use Rattle.osal_machine.specs.Step.{MachineState, part_in, step, is_ready}
-use Rattle.osal_script.specs.declared.app.ScriptCall.{ScriptCall}
-use Rattle.osal_script.specs.declared.app.ScriptCall.TheVariants as script
+use Rattle.osal_machine.specs.OpenWaits.{has_wait}
+use Rattle.osal_machine.proofs.CallWaits.{near_part, end_at}
+use Rattle.osal_machine.proofs.DueCounts.{any_part}
 use Rattle.osal_script.specs.declared.phase.Phase.{Phase}
 use Rattle.osal_script.specs.declared.phase.Phase.TheVariants as phase
-use Rattle.osal_script.specs.Calls.{call_of}
 use Rattle.osal_script.specs.Cursor.{call_in}
-use Rattle.osal_script.specs.Script.{Pending, ScriptState, line_call, is_checkpoint, is_success, is_exit_line, phase_after_checkpoint, IsCheckpointAnswer, MayCome, after_in, after_answer, is_ended}
-use Rattle.osal_script.specs.Segments.{Segment}
-use Rattle.osal_script.specs.Waiting.{waits_on_in, waits_on}
-use Rattle.osal_script.specs.Runs.{IsTimelyCall}
-use Rattle.osal_script.specs.Linked.{IsLinkedAt, is_live, is_leaving}
-use Rattle.osal_script.proofs.ScriptCalls.{unsaid_checkpoint, unsaid_end}
+use Rattle.osal_script.specs.Script.{Pending, ScriptState, is_checkpoint, is_success, is_exit_line, phase_after_checkpoint, IsCheckpointAnswer, MayCome, after_in, after_answer, is_ended}
+use Rattle.osal_runs.specs.Waiting.{waits_on_in, waits_on}
+use Rattle.osal_runs.specs.Linked.{IsLinkedAt, is_live, is_leaving}
+use Rattle.osal_runs.proofs.ScriptCalls.{unsaid_checkpoint, unsaid_end}
 use Rattle.osal_exec.specs.Running.{can_run_in, is_lost_in}
 
 -- the checkpoint of an active task goes on or tells that it was deleted
@@ -46,6 +36,10 @@ checkpoint_tells : (tasks : TaskState) (task : ℕ) (o : Option (Active Task)) �
 checkpoint_tells tasks task None active marked = absurd (false≢true active)
 checkpoint_tells tasks task (Some found) active marked =
     cond_both found.object.marked (deleted, record { objects = (delete_step tasks.objects task).1 }) (goes_on, tasks) (λ (r : Replied × TaskState). r.0.answer ≡ answer.Deleted) (λ t. refl) (λ f. absurd (true≢false (sym (ap not f) ∙ marked)))
+
+both_true : (a b : Bool) → a ≡ true → b ≡ true → (a && b) ≡ true
+both_true true b p q = q
+both_true false b p q = absurd (false≢true p)
 
 -- the next call of a script that goes on at once may come
 pub may_go_on : (state : MachineState) (task : ℕ) (script : ScriptState) (made : Call) (at : Phase) → IsLinkedAt state task at → can_run_in state task at ≡ true → call_in at script ≡ Some (said made) → MayCome at script (said made) (step state task state.time.moment made).0.answer
@@ -82,75 +76,13 @@ live_phase (phase.Waiting part) goes calm = refl
 live_phase (phase.Leaving part) goes calm = absurd (true≢false calm)
 live_phase phase.Ended goes calm = absurd (true≢false goes)
 
--- an end of a wait that waits on finds an open delay
-delay_waits : (tasks : TaskState) (task : ℕ) (now : Moment) (o : Option (WaitRecord (Unit {0}))) → is_waits (delayed tasks task now o).0.answer ≡ true → is_some o ≡ true
-delay_waits tasks task now None is = absurd (false≢true is)
-delay_waits tasks task now (Some wait) is = refl
-
--- the same of a take
-take_waits : (sems : BinSemState) (task : ℕ) (now : Moment) (o : Option (WaitRecord ℕ)) → is_waits (taken_by sems task now o).0.answer ≡ true → is_some o ≡ true
-take_waits sems task now None is = absurd (false≢true is)
-take_waits sems task now (Some wait) is = refl
-
--- no other part waits
-absent_ready : (b c : Bool) (state : MachineState) (task : ℕ) (now : Moment) (part : ℕ) → is_waits (part_step (cond false (Tasks state.tasks) (cond false (BinSems state.bin_sems) (cond c (Time state.time) Absent))) task now (call.WaitEnd part)).0.answer ≡ true → ⊥
-absent_ready b true state task now part is = false≢true is
-absent_ready b false state task now part is = false≢true is
-
--- nor does the task part under another number
-far_ready : (tasks : TaskState) (task : ℕ) (now : Moment) (part : ℕ) → (part ≡ 0 → ⊥) → is_waits (wait_end_step tasks task now part).0.answer ≡ true → ⊥
-far_ready tasks task now part ne is =
-    false≢true (sym (ap (λ b. is_waits (cond {A = Replied × TaskState} b (delayed tasks task now (wait_of tasks.objects.waits task)) (refusal status.ErrIncorrectObjState, tasks)).0.answer) (ne_eqb part 0 ne)) ∙ is)
-
-or_true : (b : Bool) → (b || true) ≡ true
-or_true true = refl
-or_true false = refl
-
-both_true : (a b : Bool) → a ≡ true → b ≡ true → (a && b) ≡ true
-both_true true b p q = q
-both_true false b p q = absurd (false≢true p)
-
 module _ (state : MachineState) (task : ℕ) where
-  -- whether the end of the task's wait in a part would wait on
-  abbrev WaitsOn : ℕ → Type 0
-  WaitsOn part = is_waits (step state task state.time.moment (call.WaitEnd part)).0.answer ≡ true
-
-  waits_in_tasks : WaitsOn 0 → waits_on state task ≡ true
-  waits_in_tasks is =
-      let own : waits_on_in state.tasks.objects.waits state 0 task ≡ true = both_true _ _ (delay_waits state.tasks task state.time.moment (wait_of state.tasks.objects.waits task) is) (ap (λ b. not (not b)) is) in
-      ap (λ b. b || waits_on_in state.bin_sems.objects.waits state 3 task) own
-
-  waits_in_sems : WaitsOn 3 → waits_on state task ≡ true
-  waits_in_sems is =
-      let own : waits_on_in state.bin_sems.objects.waits state 3 task ≡ true = both_true _ _ (take_waits state.bin_sems task state.time.moment (wait_of state.bin_sems.objects.waits task) is) (ap (λ b. not (not b)) is) in
-      ap (λ b. waits_on_in state.tasks.objects.waits state 0 task || b) own ∙ or_true _
-
-  -- the parts that do not wait
-  nowhere : (part : ℕ) → (part ≡ 0 → ⊥) → (part ≡ 3 → ⊥) → WaitsOn part → ⊥
-  nowhere part not_tasks not_sems is =
-      elim (cases_lt 8 part) [
-        | inl far ↦
-            let at : part_of_wait part ≡ 0 = ap (λ b. cond b 0 part) (lt-ltb 8 part far) in
-            far_ready state.tasks task state.time.moment part not_tasks (subst (λ n. is_waits (part_step (part_in n state) task state.time.moment (call.WaitEnd part)).0.answer ≡ true) at is)
-        | inr near ↦
-            let at : part_of_wait part ≡ part = ap (λ b. cond b 0 part) (le-ltb 8 part near) in
-            let here = subst (λ n. is_waits (part_step (part_in n state) task state.time.moment (call.WaitEnd part)).0.answer ≡ true) at is in
-            absent_ready false _ state task state.time.moment part (rw (ne_eqb part 0 not_tasks, ne_eqb part 3 not_sems) at here)
-      ]
-
-  waits_anywhere : (part : ℕ) → WaitsOn part → waits_on state task ≡ true
-  waits_anywhere part is =
-      elim (cases_eq part 0) [
-        | inl same ↦ waits_in_tasks (subst WaitsOn same is)
-        | inr not_tasks ↦ elim (cases_eq part 3) [
-          | inl same ↦ waits_in_sems (subst WaitsOn same is)
-          | inr not_sems ↦ absurd (nowhere part not_tasks not_sems is)
-        ]
-      ]
-
   -- a task whose wait is not ready waits on
   pub waits_where : (part : ℕ) → is_ready state task state.time.moment part ≡ false → waits_on state task ≡ true
-  waits_where part is = waits_anywhere part (not-false _ is)
+  waits_where part is =
+      let on : is_waits (step state task state.time.moment (call.WaitEnd part)).0.answer ≡ true = not-false _ is in
+      let some : has_wait (part_in part state) task ≡ true = end_waits on (end_at state task state.time.moment part) in
+      any_part (waits_on_in state task) part (near_part state task part some) (both_true _ _ some (ap (λ b. not (not b)) on))
 
   -- a task that neither runs at once nor waits though it was deleted cannot go on
   pub cannot_go : (at : Phase) → can_run_in state task at ≡ false → is_lost_in state task at ≡ false → (not (is_ended at) && (not (waits_on state task) || not (goes state.tasks task))) ≡ false

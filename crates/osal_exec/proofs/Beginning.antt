@@ -1,10 +1,10 @@
 -- The first entry: the machine creates the first task.
-use Rattle.std.proofs.Common.{◌≡◌, ◌<◌, ◌≤◌, ◌+◌, ◌++◌, ℕ, Bool, true, false, cond, List, [], ◌∷◌, Option, Some, None, length, replicate, inl, inr, refl, sym, ap, subst, ◌∙◌, arith, slice_get}
+use Rattle.std.proofs.Common.{◌≡◌, ◌≤◌, ◌++◌, ℕ, false, List, [], ◌∷◌, Option, Some, None, length, replicate, inl, inr, refl, sym, ap, subst, ◌∙◌, arith, slice_get}
 use Rattle.std.specs.List.{AllByRecursion}
-use Rattle.std.proofs.lemmas.Bool.{cond_both, cases_lt, false≢true, true≢false}
+use Rattle.std.proofs.lemmas.Bool.{cond_both, cases_lt, true≢false}
 use Rattle.std.proofs.lemmas.List.{length-replicate, get_or-replicate, get_or_past}
 use Rattle.osal_base.specs.Limits.{version1}
-use Rattle.osal_base.specs.Reply.{Replied, reply_of}
+use Rattle.osal_base.specs.Reply.{Replied}
 use Rattle.osal_base.specs.Text.{Text}
 use Rattle.osal_base.specs.declared.time.Moment.{Moment}
 use Rattle.osal_machine.specs.declared.call.Call.{Call}
@@ -16,14 +16,14 @@ use Rattle.osal_machine.specs.Journal.{Entries}
 use Rattle.osal_machine.specs.History.{replay}
 use Rattle.osal_script.specs.App.{Application, ScriptBody, NamesLater}
 use Rattle.osal_script.specs.Cost.{cost_of}
-use Rattle.osal_script.specs.Script.{ScriptState, is_ended}
-use Rattle.osal_script.specs.Segments.{script_in, is_of, begun, segments_of}
-use Rattle.osal_script.specs.Linked.{no_script, newest_script, is_leaving}
-use Rattle.osal_script.specs.Runs.{CreatesMain, CreatesFirst}
-use Rattle.osal_script.specs.UnderWay.{IsUnderWay}
-use Rattle.osal_script.proofs.UnderWay.{first_goes}
+use Rattle.osal_script.specs.Script.{ScriptState}
+use Rattle.osal_runs.specs.Segments.{script_in, is_of, begun, segments_of}
+use Rattle.osal_runs.specs.Linked.{no_script, newest_script, is_leaving}
+use Rattle.osal_runs.specs.Runs.{CreatesMain, CreatesFirst}
+use Rattle.osal_runs.specs.UnderWay.{IsUnderWay}
+use Rattle.osal_runs.proofs.UnderWay.{first_goes}
 use Rattle.osal_exec.specs.Running.{Running, runner_at, AreRunning, with_begun, IsIdentifier}
-use Rattle.osal_exec.specs.Driving.{MakesEntry, IsPushed, Drive, IsDriven, IsSteady}
+use Rattle.osal_exec.specs.Driving.{MakesEntry, IsPushed, Drive, IsSteady}
 use Rattle.osal_exec.proofs.Begun.{AreNew, entry_begins, begun_small}
 use Rattle.osal_exec.proofs.Kept.{running_push}
 use Rattle.osal_exec.proofs.Driven.{new_calm}

@@ -1,7 +1,7 @@
 -- What an entry begins: at most one segment, of a task with a slot that no other has.
-use Rattle.std.proofs.Common.{◌≡◌, ◌==◌, ◌⊎◌, ℕ, Bool, true, false, cond, eqb, List, [], ◌∷◌, Option, Some, None, is_some, inl, inr, refl, sym, ap, subst, ◌∙◌, slice_get}
+use Rattle.std.proofs.Common.{◌≡◌, ◌⊎◌, ℕ, true, false, List, [], ◌∷◌, Option, Some, None, is_some, inl, inr, refl, sym, ap, subst, ◌∙◌, slice_get}
 use Rattle.std.specs.List.{AllByRecursion}
-use Rattle.std.proofs.lemmas.Bool.{cond_both, cases_eq, cases_Bool, false≢true, true≢false, eq-eqb, ne_eqb}
+use Rattle.std.proofs.lemmas.Bool.{cond_both, false≢true, eq-eqb}
 use Rattle.osal_base.specs.Identifier.{slot_of}
 use Rattle.osal_base.specs.Limits.{IsCapacity}
 use Rattle.osal_base.specs.Reply.{Replied, reply_of}
@@ -9,15 +9,14 @@ use Rattle.osal_base.specs.declared.time.Moment.{Moment}
 use Rattle.osal_idtable.specs.Table.{Active, is_slot_taken, active_at}
 use Rattle.osal_idtable.proofs.WellFormed.{missed}
 use Rattle.osal_task.specs.declared.part.Task.{Task}
-use Rattle.osal_task.specs.Tasks.{TaskState, task_at}
+use Rattle.osal_task.specs.Tasks.{TaskState}
 use Rattle.osal_machine.specs.declared.call.Call.{Call}
 use Rattle.osal_machine.specs.declared.call.Call.TheVariants as call
 use Rattle.osal_machine.specs.declared.call.Entry.{Entry}
 use Rattle.osal_machine.specs.Step.{MachineState, step}
 use Rattle.osal_script.specs.App.{Application, ScriptBody}
 use Rattle.osal_script.specs.Script.{is_success}
-use Rattle.osal_script.specs.Segments.{Segment, segment_with, begun_by, begun}
-use Rattle.osal_script.specs.Runs.{FollowsScript}
+use Rattle.osal_runs.specs.Segments.{Segment, segment_with, begun_by, begun}
 use Rattle.osal_exec.specs.Running.{IsIdentifier}
 use Rattle.osal_exec.proofs.Slots.{IsFreeId, fresh_task}
 
@@ -40,25 +39,7 @@ segment_new state id name (Some body) free =
 begun_new : (app : Application) (state : MachineState) → state.tasks.objects.table.kind ≡ 1 → IsCapacity state.tasks.objects.table.capacity → (task : ℕ) (now : Moment) (made : Call) → is_success (step state task now made).0.answer ≡ true → AreNew state (begun_by app made (step state task now made).0.number)
 begun_new app state typed room task now (call.TaskCreate name body stack priority) good =
     segment_new state (step state task now (call.TaskCreate name body stack priority)).0.number name.bytes (slice_get app.bodies body) (fresh_task state.tasks typed room name.bytes body stack priority good)
-begun_new app state typed room task now call.TaskExit good = inl refl
-begun_new app state typed room task now (call.TaskDelete id) good = inl refl
-begun_new app state typed room task now (call.TaskSetPriority id priority) good = inl refl
-begun_new app state typed room task now (call.TaskFind name) good = inl refl
-begun_new app state typed room task now (call.TaskInfo id) good = inl refl
-begun_new app state typed room task now (call.TaskDelay ms) good = inl refl
-begun_new app state typed room task now call.Checkpoint good = inl refl
-begun_new app state typed room task now (call.BinSemCreate name value) good = inl refl
-begun_new app state typed room task now (call.BinSemGive id) good = inl refl
-begun_new app state typed room task now (call.BinSemFlush id) good = inl refl
-begun_new app state typed room task now (call.BinSemTake id wait) good = inl refl
-begun_new app state typed room task now (call.BinSemDelete id) good = inl refl
-begun_new app state typed room task now (call.BinSemFind name) good = inl refl
-begun_new app state typed room task now (call.BinSemInfo id) good = inl refl
-begun_new app state typed room task now (call.Advance to) good = inl refl
-begun_new app state typed room task now (call.Hold id) good = inl refl
-begun_new app state typed room task now (call.Release id) good = inl refl
-begun_new app state typed room task now (call.WaitEnd part) good = inl refl
-begun_new app state typed room task now (call.WaitAbandon part) good = inl refl
+begun_new app state typed room task now _ good = inl refl
 
 -- what an entry with the machine's reply begins
 pub entry_begins : (app : Application) (state : MachineState) → state.tasks.objects.table.kind ≡ 1 → IsCapacity state.tasks.objects.table.capacity → (task : ℕ) (now : Moment) (made : Call) (entry : Entry) → entry.call ≡ made → reply_of entry.reply ≡ (step state task now made).0 → AreNew state (begun app entry)

@@ -1,10 +1,10 @@
 -- A driver goes on by the call of a task.
-use Rattle.std.proofs.Common.{◌≡◌, ◌<◌, ◌≤◌, ◌+◌, ◌++◌, ℕ, Bool, true, false, cond, List, [], ◌∷◌, Option, Some, None, length, inl, inr, refl, sym, ap, subst, ◌∙◌, arith}
+use Rattle.std.proofs.Common.{◌≡◌, ◌<◌, ◌+◌, ◌++◌, ℕ, true, false, List, [], ◌∷◌, Some, length, inl, inr, refl, sym, ap, subst, ◌∙◌, arith}
 use Rattle.std.proofs.lemmas.Bool.{cond_both, cases_eq, cases_Bool}
 use Rattle.std.proofs.lemmas.List.{length_push, append-nil}
 use Rattle.osal_base.specs.Identifier.{slot_of}
 use Rattle.osal_base.specs.Limits.{version1, IsCapacity}
-use Rattle.osal_base.specs.Reply.{Replied, reply_of}
+use Rattle.osal_base.specs.Reply.{Replied}
 use Rattle.osal_base.specs.declared.time.Moment.{Moment}
 use Rattle.osal_task.specs.Tasks.{task_at}
 use Rattle.osal_machine.specs.declared.call.Call.{Call}
@@ -15,17 +15,16 @@ use Rattle.osal_machine.specs.Journal.{Entries}
 use Rattle.osal_machine.specs.History.{replay}
 use Rattle.osal_machine.proofs.Histories.{replay_push}
 use Rattle.osal_script.specs.App.{Application}
-use Rattle.osal_script.specs.Cost.{cost_of}
 use Rattle.osal_script.specs.Script.{ScriptState, MayCome, IsNext, after_entry, is_ended}
-use Rattle.osal_script.specs.Segments.{Segment, script_in, is_of, has_segment, joined, begun, recorded, segments_of}
-use Rattle.osal_script.specs.Linked.{newest_script, IsLinked, GivesFree, is_creation, is_leaving}
-use Rattle.osal_script.specs.UnderWay.{IsUnderWay}
-use Rattle.osal_script.proofs.CostLaw.{cost_bounds_entries}
-use Rattle.osal_script.proofs.Following.{segments_push}
-use Rattle.osal_script.proofs.Linking.{begins_none}
-use Rattle.osal_script.proofs.LinkedSteps.{has_of_next}
-use Rattle.osal_script.proofs.Segments.{newest_joined, newest_other, newest_push}
-use Rattle.osal_script.proofs.UnderWay.{task_goes_on}
+use Rattle.osal_runs.specs.Segments.{Segment, script_in, is_of, has_segment, joined, begun, recorded, segments_of}
+use Rattle.osal_runs.specs.Linked.{newest_script, IsLinked, is_creation, is_leaving}
+use Rattle.osal_runs.specs.UnderWay.{IsUnderWay}
+use Rattle.osal_runs.proofs.CostLaw.{cost_bounds_entries}
+use Rattle.osal_runs.proofs.Following.{segments_push}
+use Rattle.osal_runs.proofs.Linking.{begins_none}
+use Rattle.osal_runs.proofs.LinkedSteps.{has_of_next}
+use Rattle.osal_runs.proofs.Segments.{newest_joined, newest_other, newest_push}
+use Rattle.osal_runs.proofs.UnderWay.{task_goes_on}
 use Rattle.osal_exec.specs.Running.{Running, runner_at, slot_of_task, AreRunning, with_entry, with_begun, MayMake}
 use Rattle.osal_exec.specs.Driving.{MakesEntry, IsPushed, Drive, IsDriven, IsCalm, MayCreate}
 use Rattle.osal_exec.proofs.Slots.{slots_of_journal}

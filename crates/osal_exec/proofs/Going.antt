@@ -1,26 +1,24 @@
 -- What a driver may call next, and that no wait is left half given up.
-use Rattle.std.proofs.Common.{◌≡◌, ◌<◌, ◌+◌, ◌⊎◌, ℕ, Bool, true, false, List, Option, Some, None, length, inl, inr, refl, sym, ap, subst, ◌∙◌, arith}
-use Rattle.std.proofs.lemmas.Bool.{cases_eq, false≢true}
+use Rattle.std.proofs.Common.{◌≡◌, ◌<◌, ◌+◌, ℕ, true, false, Option, Some, None, length, refl, sym, ap, subst, ◌∙◌, arith}
+use Rattle.std.proofs.lemmas.Bool.{false≢true}
 use Rattle.std.proofs.lemmas.List.{length_push, get_or-set_same}
 use Rattle.osal_base.specs.Reply.{reply_of}
-use Rattle.osal_task.specs.Tasks.{goes}
 use Rattle.osal_machine.specs.declared.call.Call.{Call}
 use Rattle.osal_machine.specs.declared.call.Call.TheVariants as call
 use Rattle.osal_machine.specs.declared.call.Entry.{Entry}
 use Rattle.osal_machine.specs.Call.{said}
-use Rattle.osal_machine.specs.Step.{MachineState, step}
+use Rattle.osal_machine.specs.Step.{step}
 use Rattle.osal_script.specs.declared.phase.Phase.{Phase}
 use Rattle.osal_script.specs.declared.phase.Phase.TheVariants as phase
 use Rattle.osal_script.specs.App.{Application}
-use Rattle.osal_script.specs.Cursor.{call_in, next_call}
+use Rattle.osal_script.specs.Cursor.{next_call}
 use Rattle.osal_script.specs.Script.{ScriptState, MayCome, after_in, after_entry}
-use Rattle.osal_script.specs.Segments.{begun, segments_of}
-use Rattle.osal_script.specs.Linked.{newest_script, IsLinkedAt, is_creation, is_leaving}
+use Rattle.osal_runs.specs.Linked.{IsLinkedAt, is_creation, is_leaving}
 use Rattle.osal_exec.specs.Running.{Running, runner_at, gone_on, with_entry, with_begun, can_run, IsLostIn, MayMake}
-use Rattle.osal_exec.specs.Driving.{Drive, IsDriven, IsCalm, IsSteady, MayCreate, Takes}
+use Rattle.osal_exec.specs.Driving.{Drive, IsDriven, IsSteady, MayCreate, Takes}
 use Rattle.osal_exec.proofs.Kept.{within}
 use Rattle.osal_exec.proofs.Allowed.{may_go_on, may_leave, stays_calm}
-use Rattle.osal_script.proofs.Linking.{begins_none}
+use Rattle.osal_runs.proofs.Linking.{begins_none}
 use Rattle.osal_exec.proofs.Driven.{linked, calm_taken, calm_others}
 use Rattle.osal_exec.proofs.Taking.{driven_on}
 

@@ -1,14 +1,12 @@
 -- The runners stay as far as the scripts, with one more entry.
-use Rattle.std.proofs.Common.{◌≡◌, ◌<◌, ◌≤◌, ◌++◌, ◌%◌, ℕ, zero, suc, Bool, true, false, cond, List, [], ◌∷◌, Option, Some, None, length, set, get_or, inl, inr, refl, sym, ap, subst, ◌∙◌, arith}
-use Rattle.std.proofs.lemmas.Bool.{cases_eq, cases_lt, false≢true, eqb-true, eq-eqb, ne_eqb, cases_Bool}
+use Rattle.std.proofs.Common.{◌≡◌, ◌<◌, ◌++◌, ℕ, true, false, cond, List, [], ◌∷◌, Option, Some, None, length, get_or, inl, inr, refl, sym, ap, subst, ◌∙◌, arith}
+use Rattle.std.proofs.lemmas.Bool.{cases_eq, cases_lt, eq-eqb, ne_eqb}
 use Rattle.std.proofs.lemmas.List.{length-set, get_or-set_same, get_or-set_other, get_or_past}
-use Rattle.osal_base.specs.Limits.{version1}
 use Rattle.osal_machine.specs.declared.call.Entry.{Entry}
-use Rattle.osal_script.specs.App.{ScriptBody}
 use Rattle.osal_script.specs.Script.{ScriptState, start_of, after_entry, is_ended}
-use Rattle.osal_script.specs.Segments.{Segment, script_in, is_of, has_segment, joined}
-use Rattle.osal_script.specs.Linked.{newest_script}
-use Rattle.osal_script.proofs.Segments.{newest_joined, newest_other, newest_push}
+use Rattle.osal_runs.specs.Segments.{Segment, script_in, has_segment, joined}
+use Rattle.osal_runs.specs.Linked.{newest_script}
+use Rattle.osal_runs.proofs.Segments.{newest_joined, newest_other, newest_push}
 use Rattle.osal_exec.specs.Running.{Running, runner_at, slot_of_task, AreRunning, gone_on, with_entry, with_begun}
 
 -- where something stands, there is a place

@@ -1,29 +1,22 @@
 -- Where no runner goes on no task can, and time goes on or the run is settled.
-use Rattle.std.proofs.Common.{◌≡◌, ◌==◌, ◌<◌, ◌≤◌, ◌+◌, ◌++◌, ◌&&◌, ◌||◌, ℕ, Bool, true, false, not, cond, List, [], ◌∷◌, Option, Some, None, length, inl, inr, refl, sym, ap, subst, ◌∙◌, arith}
-use Rattle.std.specs.List.{list_any, AllByRecursion}
-use Rattle.std.proofs.lemmas.Bool.{cond_both, cases_Bool, false≢true, eq-eqb, lt-ltb, or_from, or_left, or_right}
-use Rattle.std.proofs.lemmas.List.{append-nil, length_push}
-use Rattle.osal_base.specs.Limits.{version1}
-use Rattle.osal_base.specs.Reply.{Replied, reply_of, success, refusal}
-use Rattle.osal_base.specs.declared.status.Status.TheVariants as status
-use Rattle.osal_base.specs.declared.time.Moment.{Moment}
+use Rattle.std.proofs.Common.{◌≡◌, ◌<◌, ◌≤◌, ◌+◌, ◌++◌, ◌&&◌, ◌||◌, ℕ, Bool, true, false, not, cond, List, [], ◌∷◌, Some, None, length, inl, inr, refl, sym, ap, subst, ◌∙◌, arith}
+use Rattle.std.proofs.lemmas.Bool.{cases_Bool, eq-eqb, or_from, or_left, or_right}
+use Rattle.std.proofs.lemmas.List.{length_push}
+use Rattle.osal_base.specs.Reply.{Replied}
 use Rattle.osal_task.specs.Tasks.{goes}
-use Rattle.osal_machine.specs.declared.call.Call.{Call}
 use Rattle.osal_machine.specs.declared.call.Call.TheVariants as call
 use Rattle.osal_machine.specs.declared.call.Entry.{Entry}
-use Rattle.osal_machine.specs.Time.{TimeState, advance_step}
 use Rattle.osal_machine.specs.Step.{MachineState, step}
-use Rattle.osal_machine.specs.History.{replay}
 use Rattle.osal_script.specs.declared.phase.Phase.{Phase}
 use Rattle.osal_script.specs.App.{Application}
-use Rattle.osal_script.specs.Script.{ScriptState, is_success, is_ended}
-use Rattle.osal_script.specs.Segments.{Segment, script_in, is_of, has_segment, begun, recorded, segments_of}
-use Rattle.osal_script.specs.Waiting.{waits_on, can_go, some_can_go, next_deadline}
-use Rattle.osal_script.specs.Linked.{no_script, newest_script, is_creation, is_leaving}
-use Rattle.osal_script.specs.UnderWay.{IsUnderWay}
-use Rattle.osal_script.specs.Runs.{is_advance, IsCalledBy, FollowsScript, EndsBefore, IsTimelyCall, IsPartRun, IsRun}
-use Rattle.osal_script.proofs.LinkedSteps.{recorded_still}
-use Rattle.osal_script.proofs.UnderWay.{time_goes_on}
+use Rattle.osal_script.specs.Script.{ScriptState, is_ended}
+use Rattle.osal_runs.specs.Segments.{Segment, script_in, is_of, has_segment, recorded, segments_of}
+use Rattle.osal_runs.specs.Waiting.{waits_on, can_go, some_can_go, next_deadline}
+use Rattle.osal_runs.specs.Linked.{no_script, newest_script, is_creation, is_leaving}
+use Rattle.osal_runs.specs.UnderWay.{IsUnderWay}
+use Rattle.osal_runs.specs.Runs.{EndsBefore, IsRun}
+use Rattle.osal_runs.proofs.LinkedSteps.{recorded_still}
+use Rattle.osal_runs.proofs.UnderWay.{time_goes_on}
 use Rattle.osal_exec.specs.Running.{runner_at, slot_of_task, AreRunning, can_run, is_lost, NoneRuns, NoneIsLost}
 use Rattle.osal_exec.specs.Driving.{MakesEntry, IsPushed, AddsEntry, Drive, IsDriven, IsCalm, IsSteady, Since, HasTurned}
 use Rattle.osal_exec.proofs.Allowed.{cannot_go}

@@ -1,16 +1,16 @@
 -- A driver that takes a call of a task has room for its entry, and goes on as it has come.
-use Rattle.std.proofs.Common.{◌≡◌, ◌<◌, ◌+◌, ◌-◌, ℕ, Option, Some, None, length, refl, sym, subst, arith}
+use Rattle.std.proofs.Common.{◌≡◌, ◌<◌, ◌+◌, ◌-◌, ℕ, Option, Some, None, length, refl, subst, arith}
 use Rattle.std.specs.List.{AllByRecursion}
 use Rattle.osal_machine.specs.declared.call.Call.{Call}
 use Rattle.osal_machine.specs.declared.call.Entry.{Entry}
 use Rattle.osal_machine.specs.Step.{MachineState, step}
 use Rattle.osal_script.specs.App.{Application}
 use Rattle.osal_script.specs.Cost.{cost_of}
-use Rattle.osal_script.specs.Segments.{begun}
+use Rattle.osal_runs.specs.Segments.{begun}
 use Rattle.osal_exec.specs.Running.{Running, runner_at, MayMake, IsIdentifier}
 use Rattle.osal_exec.specs.Driving.{MakesEntry, Drive, IsDriven, MayCreate, Takes}
 use Rattle.osal_exec.proofs.Begun.{begun_small}
-use Rattle.osal_script.proofs.CostLaw.{cost_bounds_entries}
+use Rattle.osal_runs.proofs.CostLaw.{cost_bounds_entries}
 use Rattle.osal_exec.proofs.Driven.{spare_for, way_on, news, driven_taken}
 
 -- the entry that a call would make

@@ -9,10 +9,10 @@ use Rattle.osal_machine.specs.Journal.{Entries}
 use Rattle.osal_machine.specs.History.{replay}
 use Rattle.osal_script.specs.App.{Application, NamesLater}
 use Rattle.osal_script.specs.Cost.{cost_of}
-use Rattle.osal_script.specs.Segments.{begun, segments_of}
-use Rattle.osal_script.specs.Linked.{newest_script, is_leaving, is_creation}
-use Rattle.osal_script.specs.Runs.{IsRun}
-use Rattle.osal_script.specs.UnderWay.{IsUnderWay}
+use Rattle.osal_runs.specs.Segments.{begun, segments_of}
+use Rattle.osal_runs.specs.Linked.{newest_script, is_leaving, is_creation}
+use Rattle.osal_runs.specs.Runs.{IsRun}
+use Rattle.osal_runs.specs.UnderWay.{IsUnderWay}
 use Rattle.osal_exec.specs.Running.{Running, runner_at, AreRunning, with_entry, with_begun}
 
 -- an entry that a call made at the moment, with the reply and the state that its step gives

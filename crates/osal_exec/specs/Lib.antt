@@ -1,5 +1,5 @@
 pub use Rattle.osal_script.specs.App
 pub use Rattle.osal_script.specs.Script
-pub use Rattle.osal_script.specs.Runs
+pub use Rattle.osal_runs.specs.Runs
 pub mod Running
 pub mod Driving

@@ -9,10 +9,9 @@ use Rattle.osal_machine.specs.Call.{said}
 use Rattle.osal_machine.specs.Step.{MachineState, step, is_ready}
 use Rattle.osal_script.specs.declared.phase.Phase.{Phase}
 use Rattle.osal_script.specs.declared.phase.Phase.TheVariants as phase
-use Rattle.osal_script.specs.App.{Application}
 use Rattle.osal_script.specs.Script.{ScriptState, start_of, after_entry, MayCome, is_ended}
-use Rattle.osal_script.specs.Segments.{Segment, begun}
-use Rattle.osal_script.specs.Linked.{newest_script}
+use Rattle.osal_runs.specs.Segments.{Segment}
+use Rattle.osal_runs.specs.Linked.{newest_script}
 
 -- a task, and how far its script has come
 pub record Running : Type 0 where

@@ -1,7 +1,7 @@
 //! The driver of an application's tasks, on one thread.
 ghost use Rattle.std.specs.Prelude.{◌≡◌, ◌≤◌, [], OnOk, OnErr};
 ghost use Rattle.osal_script.specs.Cost.{cost_of};
-ghost use Rattle.osal_script.specs.Runs.{IsPartRun, IsRun};
+ghost use Rattle.osal_runs.specs.Runs.{IsPartRun, IsRun};
 ghost use Rattle.osal_exec.specs.declared.driver.Outcome.TheVariants.{Settled, NoMemory};
 
 use crate::Gate;

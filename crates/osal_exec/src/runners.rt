@@ -2,7 +2,7 @@
 ghost use Rattle.std.specs.Prelude.{◌≡◌, ◌<◌, ◌^◌, None, Some, length, replicate, slice_set, option_copied, IfOk};
 ghost use Rattle.std.specs.List.{AllByRecursion};
 ghost use Rattle.osal_script.specs.Script.{after_entry};
-ghost use Rattle.osal_script.specs.Segments.{begun};
+ghost use Rattle.osal_runs.specs.Segments.{begun};
 ghost use Rattle.osal_exec.specs.Running.{runner_at, slot_of_task, gone_on, with_entry, with_begun, IsIdentifier};
 
 use osal_base::{Answer, OsalId, OutOfMemory};

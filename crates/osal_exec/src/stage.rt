@@ -5,9 +5,9 @@ ghost use Rattle.osal_machine.specs.Step.{opening};
 ghost use Rattle.osal_machine.specs.declared.call.Call.TheVariants.{Advance};
 ghost use Rattle.osal_script.specs.App.{NamesLater};
 ghost use Rattle.osal_script.specs.Cost.{cost_of};
-ghost use Rattle.osal_script.specs.Segments.{segments_of};
-ghost use Rattle.osal_script.specs.Waiting.{some_can_go};
-ghost use Rattle.osal_script.specs.Runs.{IsPartRun, IsRun};
+ghost use Rattle.osal_runs.specs.Segments.{segments_of};
+ghost use Rattle.osal_runs.specs.Waiting.{some_can_go};
+ghost use Rattle.osal_runs.specs.Runs.{IsPartRun, IsRun};
 ghost use Rattle.osal_exec.specs.Running.{runner_at, can_run, is_lost, IsLostIn, MayMake, NoneRuns, NoneIsLost, AreMembers};
 ghost use Rattle.osal_exec.specs.Driving.{MakesEntry, drive_of, IsDriven, AddsEntry, IsSteady, MayCreate, Takes, Since, HasTurned};
 

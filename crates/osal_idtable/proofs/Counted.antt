@@ -130,7 +130,7 @@ module _ {T : Type 0} (table : TableState T) where
       absurd (both_ways _ (missed table id (slot_of id table.capacity) a.name (Some a) vacant is refl) (itself (slot_of id table.capacity)))
 
   -- an identifier that is issued was not active
-  issued_inactive : (name : Option (List ℕ)) (reserved : Reserved) → (reserve_step table name).0 ≡ Ok reserved → is_some (active_at table reserved.id) ≡ false
+  pub issued_inactive : (name : Option (List ℕ)) (reserved : Reserved) → (reserve_step table name).0 ≡ Ok reserved → is_some (active_at table reserved.id) ≡ false
   issued_inactive name reserved is =
       let got = issued table name (is_name_taken table name) (next_place table) reserved is in
       let vacant = not-true _ (find_passes (is_free_at table) _ got.place got.found) in

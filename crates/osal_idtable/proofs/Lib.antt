@@ -15,9 +15,16 @@ pub mod Written
 pub mod ByCalls
 pub mod Activity
 pub mod ActiveOnce
+pub mod Tested
 pub mod Records
 pub mod Apart
 pub mod HeldEach
 pub mod Balance
 pub mod Counted
 pub mod CallersHold
+pub mod Shapes
+pub mod DueCounts
+pub mod OpenWaits
+pub mod WaitSteps
+pub mod MovedWaits
+pub mod SameObjects

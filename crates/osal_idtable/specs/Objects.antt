@@ -3,11 +3,11 @@ use Rattle.std.specs.Prelude.{◌+◌, ◌-◌, List, ℕ, Option, Some, None, R
 use Rattle.osal_base.specs.declared.status.Status.TheVariants as status
 use Rattle.osal_base.specs.declared.name.NameFault.{NameFault}
 use Rattle.osal_base.specs.Name.{name_fault}
-use Rattle.osal_base.specs.Reply.{Replied, refusal, success, gives}
+use Rattle.osal_base.specs.Reply.{Replied, refusal, success, gives, gives_bytes}
 use Rattle.osal_idtable.specs.declared.table.ReserveFault.{ReserveFault}
 use Rattle.osal_idtable.specs.Table.{Active, TableState, Reserved, opening, active_at, with_active, with_object}
 use Rattle.osal_idtable.specs.Steps.{reserve_step, finalize_step, remove_step, find_id}
-use Rattle.osal_idtable.specs.Faults.{name_status, reserve_status, answered, found_id}
+use Rattle.osal_idtable.specs.Faults.{name_status, reserve_status, answered, found_id, name_bytes}
 use Rattle.osal_idtable.specs.Waits.{WaitsState, no_waits, waits_on}
 
 -- the objects of one type, and the open waits of their part
@@ -24,6 +24,11 @@ module _ {T : Type 0} where
   abbrev pub found_by : TableState T → List ℕ → Option NameFault → Replied
   found_by table name (Some fault) = refusal (name_status fault)
   found_by table name None = found_id (find_id table name)
+
+  -- what an info tells of an object that may be there: a number of it, with its name
+  abbrev pub info_reply : (T → ℕ) → Option (Active T) → Replied
+  info_reply number None = refusal status.ErrInvalidId
+  info_reply number (Some active) = gives_bytes (number active.object) (name_bytes active.name)
 
 module _ {T W : Type 0} where
   -- no objects and no waits

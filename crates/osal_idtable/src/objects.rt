@@ -8,14 +8,15 @@ ghost use Rattle.osal_idtable.specs.Steps.{lookup};
 ghost use Rattle.osal_idtable.specs.Looks.{name_under};
 ghost use Rattle.osal_idtable.specs.Holds.{holds_of, is_held};
 ghost use Rattle.osal_idtable.specs.Waits.{wait_of, stands_on};
-ghost use Rattle.osal_idtable.specs.Objects.{no_objects, with_value, create_step, delete_step, find_reply, hold_call_step, release_call_step};
+ghost use Rattle.osal_idtable.specs.Objects.{no_objects, with_value, create_step, delete_step, find_reply, info_reply, hold_call_step, release_call_step};
 ghost use Rattle.osal_idtable.specs.Waiting.{begin_step, end_wait, abandon_step, release_waits};
 
+mod owning;
 mod waiting;
 
 use crate::waits::{WaitRecord, Waits};
 use crate::{IdFault, Table, status_of_id, status_of_name, status_of_reserve};
-use osal_base::{Ack, Name, ObjType, OsalId, OutOfMemory, Status};
+use osal_base::{Ack, Name, ObjType, OsalId, OutOfMemory, Room, Status};
 use std::alloc::Global;
 use std::marker::Model;
 
@@ -115,6 +116,19 @@ impl<T, W> Objects<T, W> {
             Some(id) => Ack::gives(u64::from(id.raw())),
             None => Ack::refused(Status::ErrNameNotFound),
         }
+    }
+
+    /// Tells a number of an object, and its name in the room, or why there is none.
+    pub fn info(&self, id: OsalId, number: u64, room: &mut Room) -> Ack
+        requires empty { room.old ≡ [] }
+        ensures { replied result room.new ≡ info_reply (λ _. number) (active_at self.now.table id) }
+    {
+        match self.table.name_of(id) {
+            Err(_) => return Ack::refused(Status::ErrInvalidId),
+            Ok(None) => {}
+            Ok(Some(name)) => room.append(name.as_slice()),
+        }
+        Ack::gives(number)
     }
 
     /// Holds an object, so that it is not removed.

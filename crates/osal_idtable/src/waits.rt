@@ -1,8 +1,9 @@
 //! The open waits of a part.
-ghost use Rattle.std.specs.Prelude.{◌≡◌, ◌<◌, ◌≤◌, length, not, filter, map, IfOk, option_copied};
+ghost use Rattle.std.specs.Prelude.{◌≡◌, ◌<◌, ◌≤◌, Bool, length, not, filter, find, map, IfOk, option_copied};
 ghost use Rattle.std.specs.Vec.{vec_capacity};
 ghost use Rattle.osal_base.specs.Limits.{IsCapacity};
 ghost use Rattle.osal_idtable.specs.Waits.{no_waits, new_wait, is_of, wait_of, is_due, stands_on, waits_on, wait_fault, with_wait, without_wait, released_if, released_where};
+ghost use Rattle.osal_idtable.specs.Tests.{Computes};
 ghost use Rattle.osal_idtable.specs.Deadlines.{deadline_above, deadlines_in, least, sooner};
 
 use crate::Standing;
@@ -65,15 +66,6 @@ impl<W> WaitRecord<W> {
             Some(on) => on == id,
         }
     }
-
-    /// Releases it where it stands on an object.
-    fn release_on(&mut self, id: OsalId)
-        ensures { self.new ≡ released_if (stands_on id) self.old }
-    {
-        if self.stands_on(id) {
-            self.released = true;
-        }
-    }
 }
 
 /// The open waits of a part, oldest first: at most one of a task, and so many as there may be tasks.
@@ -109,12 +101,19 @@ impl<W> Waits<W> {
     pub(crate) fn wait_of(&self, task: OsalId) -> Option<&WaitRecord<W>>
         ensures { option_copied result ≡ wait_of self.now task }
     {
-        for wait in &self.records {
-            if wait.task == task {
-                return Some(wait);
-            }
-        }
-        None
+        self.first_where(|wait| wait.task == task)
+    }
+
+    /// The oldest wait that passes a test. It looks at each wait at most.
+    pub(crate) fn first_where<F: Fn(&WaitRecord<W>) -> bool>(
+        &self,
+        test: F,
+    ) -> Option<&WaitRecord<W>>
+        requires { F.IsAlwaysCallable test }
+        ensures { (passes : WaitRecord W → Bool) → Computes F.Fn test passes
+            → option_copied result ≡ find passes self.now.records }
+    {
+        first_passing(self.records.as_slice(), test)
     }
 
     /// Why a task may not begin a wait: it waits already, or there is no room for one more.
@@ -171,11 +170,13 @@ impl<W: Drop> Waits<W> {
         take_out(&mut self.records, task);
     }
 
-    /// Releases each wait that stands on an object.
-    pub(crate) fn release_on(&mut self, id: OsalId)
-        ensures { self.new ≡ released_where self.old (stands_on id) }
+    /// Releases each wait that passes a test.
+    pub(crate) fn release_where<F: Fn(&WaitRecord<W>) -> bool>(&mut self, test: F)
+        requires { F.IsAlwaysCallable test }
+        ensures { (passes : WaitRecord W → Bool) → Computes F.Fn test passes
+            → self.new ≡ released_where self.old passes }
     {
-        release_all_on(self.records.as_mut_slice(), id);
+        release_passing(self.records.as_mut_slice(), test);
     }
 }
 
@@ -188,12 +189,33 @@ fn take_out<W: Drop>(waits: &mut Vec<WaitRecord<W>>, task: OsalId)
     waits.retain(|wait| wait.task != task);
 }
 
-/// Releases each of the waits that stands on an object.
-fn release_all_on<W>(waits: &mut [WaitRecord<W>], id: OsalId)
-    ensures { waits.new ≡ map (released_if (stands_on id)) waits.old }
+/// The first of the waits that passes a test.
+fn first_passing<W, F: Fn(&WaitRecord<W>) -> bool>(
+    waits: &[WaitRecord<W>],
+    test: F,
+) -> Option<&WaitRecord<W>>
+    requires { F.IsAlwaysCallable test }
+    ensures { (passes : WaitRecord W → Bool) → Computes F.Fn test passes
+        → option_copied result ≡ find passes waits.now }
+{
+    for wait in waits {
+        if test(wait) {
+            return Some(wait);
+        }
+    }
+    None
+}
+
+/// Releases each of the waits that passes a test.
+fn release_passing<W, F: Fn(&WaitRecord<W>) -> bool>(waits: &mut [WaitRecord<W>], test: F)
+    requires { F.IsAlwaysCallable test }
+    ensures { (passes : WaitRecord W → Bool) → Computes F.Fn test passes
+        → waits.new ≡ map (released_if passes) waits.old }
 {
     for wait in waits.iter_mut() {
-        wait.release_on(id);
+        if test(wait) {
+            wait.released = true;
+        }
     }
 }
 

@@ -25,3 +25,8 @@ legal_push state (first ∷ entries) entry legal replied =
 pub legal_last : (state : MachineState) (entries : List Entry) (entry : Entry) → IsLegalFrom state (entries ++ entry ∷ []) → reply_of entry.reply ≡ (step (replay_from state entries) entry.task entry.now entry.call).0
 legal_last state [] entry legal = legal.0
 legal_last state (first ∷ entries) entry legal = legal_last (after_entry state first) entries entry legal.1
+
+-- what follows in a legal history is legal from the state that is left
+pub legal_rest : (state : MachineState) (before after : List Entry) → IsLegalFrom state (before ++ after) → IsLegalFrom (replay_from state before) after
+legal_rest state [] after legal = legal
+legal_rest state (first ∷ before) after legal = legal_rest (after_entry state first) before after legal.1

@@ -34,12 +34,12 @@ use Rattle.osal_machine.specs.Step.{MachineState, opening, with_part, step}
 use Rattle.osal_machine.specs.History.{after_entry, replay_from, replay}
 use Rattle.osal_machine.specs.Laws.{MarkedTasksAreUnheld, DeletedTasksAreGone}
 use Rattle.osal_machine.proofs.Histories.{replay_push, legal_last}
-use Rattle.osal_machine.proofs.Own.{chosen}
+use Rattle.osal_machine.proofs.Own.{after_tasks}
 use Rattle.osal_machine.proofs.Moves.{either}
 use Rattle.osal_machine.proofs.Unheld.{AreFree, free_create, free_delete, free_put, free_hold, free_release, free_begun, free_ended}
 
 -- each task of the part that is marked for deletion is not held
-abbrev AllFree : TaskState → Type 0
+abbrev pub AllFree : TaskState → Type 0
 AllFree tasks = AreFree tasks.objects.table.active
 
 module _ (tasks : TaskState) (all : AllFree tasks) where
@@ -136,18 +136,14 @@ module _ (tasks : TaskState) (all : AllFree tasks) where
       (λ marked same. removed task active is marked)
       (λ unmarked same. let other = ap (λ (r : Replied). r.answer) same in cc)
 
-free_chosen : (a b c : Bool) (state : MachineState) (task : ℕ) (now : Moment) (made : Call) → AllFree state.tasks → AllFree (with_part state (part_step (chosen a b c state) task now made).1).tasks
-free_chosen true b c state task now made all = task_frees state.tasks all task now made
-free_chosen false true c state task now made all = all
-free_chosen false false true state task now made all = all
-free_chosen false false false state task now made all = all
+-- a call leaves each marked task without holds
+pub free_step : (state : MachineState) (task : ℕ) (now : Moment) (made : Call) → AllFree state.tasks → AllFree (step state task now made).1.tasks
+free_step state task now made all = after_tasks state task now made AllFree all (task_frees state.tasks all task now made)
 
 free_after : (entries : List Entry) (state : MachineState) → AllFree state.tasks → AllFree (replay_from state entries).tasks
 free_after [] state all = all
 free_after (entry ∷ entries) state all =
-    let part = part_of entry.call in
-    free_after entries (after_entry state entry)
-    (free_chosen (nat_eq part 0) (nat_eq part 3) (nat_eq part 6) state entry.task entry.now entry.call all)
+    free_after entries (after_entry state entry) (free_step state entry.task entry.now entry.call all)
 
 -- a task that is marked for deletion is not held
 pub marked_unheld : MarkedTasksAreUnheld

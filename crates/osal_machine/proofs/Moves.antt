@@ -2,8 +2,9 @@
 use Rattle.std.proofs.Common.{◌≡◌, ◌<◌, ◌-◌, ◌^◌, ℕ, Bool, true, false, cond, List, [], ◌∷◌, Option, Some, None, is_some, refl, ap, sym, subst, ◌∙◌, arith}
 use Rattle.osal_idtable.specs.Table.{Active, active_at}
 use Rattle.osal_idtable.specs.Objects.{ObjectsState}
-use Rattle.osal_idtable.specs.Moves.{Change, Move, Changes, changed, moved, after_moves, IsAllowed, MayMove, MayMoveAll}
+use Rattle.osal_idtable.specs.Moves.{Change, Move, Changes, changed, after_changes, moved, after_moves, IsAllowed, AreAllowed, MayMove, MayMoveAll}
 use Rattle.osal_idtable.specs.ObjectLaws.{HeldObjectsStay, NotActiveAgain}
+use Rattle.osal_idtable.proofs.Activity.{Alike, changes_alike}
 use Rattle.osal_machine.specs.Laws.{holds_of}
 
 -- a choice of two values that both hold
@@ -23,6 +24,28 @@ module _ {T W : Type 0} where
     pub moves : List (Move T W)
     pub may : MayMoveAll old moves
     pub are : new ≡ after_moves old moves
+
+  -- changes that may be made lead from the old objects to the new
+  pub record AreChanges (old new : ObjectsState T W) : Type 0 where
+    pub made : List (Change T W)
+    pub may : AreAllowed old made
+    pub are : new ≡ after_changes old made
+
+  -- they are one move
+  pub by_changes : (old new : ObjectsState T W) → AreChanges old new → IsMove old new
+  by_changes old new by = record { move = Changes by.made; may = by.may; is = by.are }
+
+  -- no changes
+  pub unchanged : (objects : ObjectsState T W) → AreChanges objects objects
+  unchanged objects = record { made = []; may = tt; are = refl }
+
+  -- one change
+  pub one_change : (objects : ObjectsState T W) (change : Change T W) → IsAllowed objects change → AreChanges objects (changed objects change)
+  one_change objects change may = record { made = change ∷ []; may = (may, tt); are = refl }
+
+  -- changes make nothing active and remove nothing
+  pub changes_leave : (old new : ObjectsState T W) → AreChanges old new → Alike old.table new.table
+  changes_leave old new by = subst (λ (o : ObjectsState T W). Alike old.table o.table) (sym by.are) (changes_alike old by.made)
 
   -- nothing changes
   pub stays : (objects : ObjectsState T W) → IsMove objects objects

@@ -1,20 +1,27 @@
 -- A call on an identifier that is not active is refused by that.
-use Rattle.std.proofs.Common.{◌≡◌, ℕ, false, Option, Some, None, is_some, nat_lt, refl, ap, ◌∙◌}
+use Rattle.std.proofs.Common.{◌≡◌, ◌==◌, ℕ, List, length, false, Option, Some, None, is_some, nat_lt, refl, ap, ◌∙◌}
 use Rattle.osal_base.specs.declared.status.Status.TheVariants as status
 use Rattle.osal_base.specs.declared.time.Moment.{Moment}
 use Rattle.osal_base.specs.Reply.{Replied, refusal}
 use Rattle.osal_idtable.specs.Table.{Active, TableState, active_at}
 use Rattle.osal_idtable.specs.Steps.{take_out, unheld}
 use Rattle.osal_idtable.specs.Faults.{answered}
-use Rattle.osal_idtable.specs.Objects.{ObjectsState, delete_step, hold_call_step, release_call_step, held_by_caller, released_by_caller}
+use Rattle.osal_idtable.specs.Objects.{ObjectsState, info_reply, delete_step, hold_call_step, release_call_step, held_by_caller, released_by_caller}
 use Rattle.osal_task.specs.Tasks as of_tasks
+use Rattle.osal_queue.specs.Queue.{Queue}
+use Rattle.osal_sem.specs.declared.counting.CountSem.{CountSem}
+use Rattle.osal_mutex.specs.declared.mutex.Mutex.{Mutex}
 use Rattle.osal_task.specs.Tasks.{TaskState}
+use Rattle.osal_queue.specs.Queues as of_queues
+use Rattle.osal_queue.specs.Queues.{QueueState}
+use Rattle.osal_sem.specs.Counting as of_counts
 use Rattle.osal_sem.specs.Binary as of_sems
-use Rattle.osal_sem.specs.Binary.{BinSemState}
+use Rattle.osal_mutex.specs.Mutexes as of_mutexes
+use Rattle.osal_condvar.specs.Condvars as of_condvars
 use Rattle.osal_machine.specs.declared.call.Call.{Call}
 use Rattle.osal_machine.specs.declared.call.Call.TheVariants as call
 use Rattle.osal_machine.specs.Call.{part_of_id}
-use Rattle.osal_machine.specs.Parts.{PartState, Tasks, BinSems, Time, Absent, part_step, is_active_in}
+use Rattle.osal_machine.specs.Parts.{PartState, Tasks, Queues, CountSems, BinSems, Mutexes, Condvars, Time, Absent, part_step, is_active_in}
 use Rattle.osal_machine.specs.Step.{MachineState, part_in, step}
 use Rattle.osal_machine.specs.History.{replay}
 use Rattle.osal_machine.specs.Laws.{StaleIdentifiersAreRefused, subject_of, is_active_for, is_refused_before}
@@ -48,8 +55,16 @@ module _ {T W : Type 0} (objects : ObjectsState T W) (id : ℕ) (none : active_a
 stale_hold_in : (part : PartState) (task : ℕ) (now : Moment) (other id : ℕ) → Some other ≡ Some id → is_active_in part id ≡ false → IsStale (part_step part task now (call.Hold other)).0
 stale_hold_in (Tasks tasks) task now other id same none =
     ap (λ o. (of_tasks.held_by tasks other o).0) (nothing_at tasks.objects.table other id same none)
+stale_hold_in (Queues queues) task now other id same none =
+    stale_hold queues.objects other (nothing_at queues.objects.table other id same none)
+stale_hold_in (CountSems sems) task now other id same none =
+    stale_hold sems.objects other (nothing_at sems.objects.table other id same none)
 stale_hold_in (BinSems sems) task now other id same none =
     stale_hold sems.objects other (nothing_at sems.objects.table other id same none)
+stale_hold_in (Mutexes mutexes) task now other id same none =
+    stale_hold mutexes.objects other (nothing_at mutexes.objects.table other id same none)
+stale_hold_in (Condvars condvars) task now other id same none =
+    stale_hold condvars.objects other (nothing_at condvars.objects.table other id same none)
 stale_hold_in (Time time) task now other id same none = refl
 stale_hold_in Absent task now other id same none = refl
 
@@ -57,14 +72,26 @@ stale_hold_in Absent task now other id same none = refl
 stale_release_in : (part : PartState) (task : ℕ) (now : Moment) (other id : ℕ) → Some other ≡ Some id → is_active_in part id ≡ false → IsStale (part_step part task now (call.Release other)).0
 stale_release_in (Tasks tasks) task now other id same none =
     stale_release tasks.objects other (nothing_at tasks.objects.table other id same none)
+stale_release_in (Queues queues) task now other id same none =
+    stale_release queues.objects other (nothing_at queues.objects.table other id same none)
+stale_release_in (CountSems sems) task now other id same none =
+    stale_release sems.objects other (nothing_at sems.objects.table other id same none)
 stale_release_in (BinSems sems) task now other id same none =
     stale_release sems.objects other (nothing_at sems.objects.table other id same none)
+stale_release_in (Mutexes mutexes) task now other id same none =
+    stale_release mutexes.objects other (nothing_at mutexes.objects.table other id same none)
+stale_release_in (Condvars condvars) task now other id same none =
+    stale_release condvars.objects other (nothing_at condvars.objects.table other id same none)
 stale_release_in (Time time) task now other id same none = refl
 stale_release_in Absent task now other id same none = refl
 
 -- a priority that may be
 stale_priority : (tasks : TaskState) (id priority : ℕ) → nat_lt of_tasks.lowest_priority priority ≡ false → of_tasks.task_at tasks id ≡ None → IsStale (of_tasks.task_set_priority_step tasks id priority).0
 stale_priority tasks id priority may none = rw (may, none)
+
+-- a message that has bytes
+stale_put : (queues : QueueState) (id : ℕ) (message : List ℕ) → length message == 0 ≡ false → of_queues.queue_at queues id ≡ None → IsStale (of_queues.queue_put_step queues id message).0
+stale_put queues id message may none = rw (may, none)
 
 stale_step : (state : MachineState) (task : ℕ) (now : Moment) (made : Call) (id : ℕ) → subject_of task made ≡ Some id → is_active_for state made id ≡ false → is_refused_before made ≡ false → IsStale (step state task now made).0
 stale_step state task now call.TaskExit id same none may =
@@ -77,6 +104,22 @@ stale_step state task now (call.TaskSetPriority other priority) id same none may
     stale_priority state.tasks other priority may (nothing_at state.tasks.objects.table other id same none)
 stale_step state task now (call.TaskInfo other) id same none may =
     ap of_tasks.info_of (nothing_at state.tasks.objects.table other id same none)
+stale_step state task now (call.QueueDelete other) id same none may =
+    stale_delete state.queues.objects other (nothing_at state.queues.objects.table other id same none)
+stale_step state task now (call.QueuePut other payload) id same none may =
+    stale_put state.queues other payload.bytes may (nothing_at state.queues.objects.table other id same none)
+stale_step state task now (call.QueueGet other n wait) id same none may =
+    ap (λ o. (of_queues.get_from state.queues task now other n wait o).0) (nothing_at state.queues.objects.table other id same none)
+stale_step state task now (call.QueueInfo other) id same none may =
+    ap (info_reply (λ (queue : Queue). queue.creator)) (nothing_at state.queues.objects.table other id same none)
+stale_step state task now (call.CountSemGive other) id same none may =
+    ap (λ o. (of_counts.give_to state.count_sems other o).0) (nothing_at state.count_sems.objects.table other id same none)
+stale_step state task now (call.CountSemTake other wait) id same none may =
+    ap (λ o. (of_counts.take_from state.count_sems task now other wait o).0) (nothing_at state.count_sems.objects.table other id same none)
+stale_step state task now (call.CountSemDelete other) id same none may =
+    stale_delete state.count_sems.objects other (nothing_at state.count_sems.objects.table other id same none)
+stale_step state task now (call.CountSemInfo other) id same none may =
+    ap (info_reply (λ (sem : CountSem). sem.value)) (nothing_at state.count_sems.objects.table other id same none)
 stale_step state task now (call.BinSemGive other) id same none may =
     ap (λ o. (of_sems.give_to state.bin_sems other o).0) (nothing_at state.bin_sems.objects.table other id same none)
 stale_step state task now (call.BinSemFlush other) id same none may =
@@ -87,6 +130,26 @@ stale_step state task now (call.BinSemDelete other) id same none may =
     stale_delete state.bin_sems.objects other (nothing_at state.bin_sems.objects.table other id same none)
 stale_step state task now (call.BinSemInfo other) id same none may =
     ap of_sems.info_of (nothing_at state.bin_sems.objects.table other id same none)
+stale_step state task now (call.MutSemTake other) id same none may =
+    ap (λ o. (of_mutexes.take_from state.mutexes task now other o).0) (nothing_at state.mutexes.objects.table other id same none)
+stale_step state task now (call.MutSemGive other) id same none may =
+    ap (λ o. (of_mutexes.give_to state.mutexes task other o).0) (nothing_at state.mutexes.objects.table other id same none)
+stale_step state task now (call.MutSemDelete other) id same none may =
+    ap (λ o. (of_mutexes.delete_free state.mutexes other o).0) (nothing_at state.mutexes.objects.table other id same none)
+stale_step state task now (call.MutSemInfo other) id same none may =
+    ap (info_reply (λ (mutex : Mutex). mutex.creator)) (nothing_at state.mutexes.objects.table other id same none)
+stale_step state task now (call.CondvarLock other) id same none may =
+    ap (λ o. (of_condvars.lock_of state.condvars task now other o).0) (nothing_at state.condvars.objects.table other id same none)
+stale_step state task now (call.CondvarUnlock other) id same none may =
+    ap (λ o. (of_condvars.unlock_of state.condvars task other o).0) (nothing_at state.condvars.objects.table other id same none)
+stale_step state task now (call.CondvarSignal other) id same none may =
+    ap (λ o. (of_condvars.signalled state.condvars other o).0) (nothing_at state.condvars.objects.table other id same none)
+stale_step state task now (call.CondvarBroadcast other) id same none may =
+    ap (λ o. (of_condvars.told_all state.condvars other o).0) (nothing_at state.condvars.objects.table other id same none)
+stale_step state task now (call.CondvarWait other wait) id same none may =
+    ap (λ o. (of_condvars.wait_on state.condvars task now other wait o).0) (nothing_at state.condvars.objects.table other id same none)
+stale_step state task now (call.CondvarDelete other) id same none may =
+    ap (λ o. (of_condvars.delete_free state.condvars other o).0) (nothing_at state.condvars.objects.table other id same none)
 stale_step state task now (call.Hold other) id same none may =
     stale_hold_in (part_in (part_of_id other) state) task now other id same none
 stale_step state task now (call.Release other) id same none may =

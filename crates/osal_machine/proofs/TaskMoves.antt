@@ -1,5 +1,6 @@
 -- Each call of the task part makes one move of its objects.
-use Rattle.std.proofs.Common.{◌==◌, ℕ, cond, List, [], Option, Some, None, nat_lt, refl}
+use Rattle.std.proofs.Common.{◌≡◌, ◌==◌, ℕ, Bool, true, false, cond, List, [], Option, Some, None, nat_lt, refl}
+use Rattle.std.proofs.lemmas.Bool.{true≢false}
 use Rattle.osal_base.specs.declared.name.NameFault.{NameFault}
 use Rattle.osal_base.specs.declared.time.Moment.{Moment}
 use Rattle.osal_base.specs.declared.time.Timeout.TheVariants as timeout
@@ -21,32 +22,30 @@ use Rattle.osal_task.specs.Delays as of_delays
 use Rattle.osal_machine.specs.declared.call.Call.{Call}
 use Rattle.osal_machine.specs.declared.call.Call.TheVariants as call
 use Rattle.osal_machine.specs.Parts.{task_step}
-use Rattle.osal_machine.proofs.Moves.{IsMove, either, stays, changes}
+use Rattle.osal_idtable.proofs.Activity.{Alike}
+use Rattle.osal_machine.proofs.Moves.{IsMove, AreChanges, either, stays, by_changes, unchanged, one_change, changes_leave}
+
+-- whether a call may make a task active, or remove one
+abbrev pub moves_tasks : Call → Bool
+moves_tasks (call.TaskCreate name body stack priority) = true
+moves_tasks call.TaskExit = true
+moves_tasks call.Checkpoint = true
+moves_tasks other = false
 
 module _ (tasks : TaskState) where
   -- a step of the part makes one move
   abbrev Moves : Replied × TaskState → Type 0
   Moves stepped = IsMove tasks.objects stepped.1.objects
 
+  -- a step of the part makes changes
+  abbrev Alters : Replied × TaskState → Type 0
+  Alters stepped = AreChanges tasks.objects stepped.1.objects
+
   create_moves : (name : List ℕ) (body stack priority : ℕ) (fault : Option NameFault) → Moves (unless fault tasks (cond (nat_lt lowest_priority priority) (refusal status.ErrInvalidPriority, tasks) (in_tasks (create_step tasks.objects name (new_task body stack priority)))))
   create_moves name body stack priority (Some fault) = stays tasks.objects
   create_moves name body stack priority None =
       either Moves (nat_lt lowest_priority priority) _ _ (stays tasks.objects)
       (record { move = Create name (new_task body stack priority); may = tt; is = refl })
-
-  delete_moves : (id : ℕ) (found : Option (Active Task)) → Moves (of_tasks.marked_by tasks id found)
-  delete_moves id None = stays tasks.objects
-  delete_moves id (Some active) =
-      either Moves active.object.marked _ _ (stays tasks.objects)
-      (either Moves (is_held (Some active)) _ _ (stays tasks.objects) (changes tasks.objects (Put id _) tt))
-
-  priority_put : (id priority : ℕ) (found : Option (Active Task)) → Moves (of_tasks.prioritized tasks id priority found)
-  priority_put id priority None = stays tasks.objects
-  priority_put id priority (Some active) = changes tasks.objects (Put id _) tt
-
-  priority_moves : (id priority : ℕ) → Moves (of_tasks.task_set_priority_step tasks id priority)
-  priority_moves id priority =
-      either Moves (nat_lt lowest_priority priority) _ _ (stays tasks.objects) (priority_put id priority (task_at tasks id))
 
   removal_moves : (id : ℕ) → IsMove tasks.objects (delete_step tasks.objects id).1
   removal_moves id = record { move = Remove id; may = tt; is = refl }
@@ -56,44 +55,69 @@ module _ (tasks : TaskState) where
   checkpoint_moves task (Some active) =
       either Moves active.object.marked _ _ (removal_moves task) (stays tasks.objects)
 
-  hold_moves : (id : ℕ) (found : Option (Active Task)) → Moves (of_tasks.held_by tasks id found)
-  hold_moves id None = stays tasks.objects
-  hold_moves id (Some active) =
-      either Moves active.object.marked _ _ (stays tasks.objects) (changes tasks.objects (Hold id) tt)
+  delete_alters : (id : ℕ) (found : Option (Active Task)) → Alters (of_tasks.marked_by tasks id found)
+  delete_alters id None = unchanged tasks.objects
+  delete_alters id (Some active) =
+      either Alters active.object.marked _ _ (unchanged tasks.objects)
+      (either Alters (is_held (Some active)) _ _ (unchanged tasks.objects) (one_change tasks.objects (Put id _) tt))
 
-  delay_moves : (task : ℕ) (now : Moment) (ms : ℕ) → Moves (of_delays.task_delay_step tasks task now ms)
-  delay_moves task now ms =
-      either Moves (ms == 0) _ _ (stays tasks.objects)
-      (changes tasks.objects (Begin (new_wait task tt [] (timeout.Ms ms) now)) tt)
+  priority_put : (id priority : ℕ) (found : Option (Active Task)) → Alters (of_tasks.prioritized tasks id priority found)
+  priority_put id priority None = unchanged tasks.objects
+  priority_put id priority (Some active) = one_change tasks.objects (Put id _) tt
 
-  delayed_moves : (task : ℕ) (now : Moment) (found : Option (WaitRecord (Unit {0}))) → Moves (of_delays.delayed tasks task now found)
-  delayed_moves task now None = stays tasks.objects
-  delayed_moves task now (Some wait) =
-      either Moves (is_due wait now) _ _ (changes tasks.objects (End task) tt) (stays tasks.objects)
+  priority_alters : (id priority : ℕ) → Alters (of_tasks.task_set_priority_step tasks id priority)
+  priority_alters id priority =
+      either Alters (nat_lt lowest_priority priority) _ _ (unchanged tasks.objects) (priority_put id priority (task_at tasks id))
 
-  end_moves : (task : ℕ) (now : Moment) (part : ℕ) → Moves (of_delays.wait_end_step tasks task now part)
-  end_moves task now part =
-      either Moves (part == 0) _ _ (delayed_moves task now (wait_of tasks.objects.waits task)) (stays tasks.objects)
+  hold_alters : (id : ℕ) (found : Option (Active Task)) → Alters (of_tasks.held_by tasks id found)
+  hold_alters id None = unchanged tasks.objects
+  hold_alters id (Some active) =
+      either Alters active.object.marked _ _ (unchanged tasks.objects) (one_change tasks.objects (Hold id) tt)
 
-  given_up_moves : (task : ℕ) (found : Option (WaitRecord (Unit {0}))) → IsMove tasks.objects (abandoned tasks.objects task found).1
-  given_up_moves task None = stays tasks.objects
-  given_up_moves task (Some wait) = changes tasks.objects (End task) tt
+  delay_alters : (task : ℕ) (now : Moment) (ms : ℕ) → Alters (of_delays.task_delay_step tasks task now ms)
+  delay_alters task now ms =
+      either Alters (ms == 0) _ _ (unchanged tasks.objects)
+      (one_change tasks.objects (Begin (new_wait task tt [] (timeout.Ms ms) now)) tt)
 
-  abandon_moves : (task part : ℕ) → Moves (of_delays.wait_abandon_step tasks task part)
-  abandon_moves task part =
-      either Moves (part == 0) _ _ (given_up_moves task (wait_of tasks.objects.waits task)) (stays tasks.objects)
+  delayed_alters : (task : ℕ) (now : Moment) (found : Option (WaitRecord (Unit {0}))) → Alters (of_delays.delayed tasks task now found)
+  delayed_alters task now None = unchanged tasks.objects
+  delayed_alters task now (Some wait) =
+      either Alters (is_due wait now) _ _ (one_change tasks.objects (End task) tt) (unchanged tasks.objects)
+
+  end_alters : (task : ℕ) (now : Moment) (part : ℕ) → Alters (of_delays.wait_end_step tasks task now part)
+  end_alters task now part =
+      either Alters (part == 0) _ _ (delayed_alters task now (wait_of tasks.objects.waits task)) (unchanged tasks.objects)
+
+  given_up_alters : (task : ℕ) (found : Option (WaitRecord (Unit {0}))) → AreChanges tasks.objects (abandoned tasks.objects task found).1
+  given_up_alters task None = unchanged tasks.objects
+  given_up_alters task (Some wait) = one_change tasks.objects (End task) tt
+
+  abandon_alters : (task part : ℕ) → Alters (of_delays.wait_abandon_step tasks task part)
+  abandon_alters task part =
+      either Alters (part == 0) _ _ (given_up_alters task (wait_of tasks.objects.waits task)) (unchanged tasks.objects)
+
+  -- a call that creates no task and removes none makes changes
+  pub task_changes : (task : ℕ) (now : Moment) (made : Call) → moves_tasks made ≡ false → Alters (task_step tasks task now made)
+  task_changes task now (call.TaskCreate name body stack priority) still = absurd (true≢false still)
+  task_changes task now call.TaskExit still = absurd (true≢false still)
+  task_changes task now call.Checkpoint still = absurd (true≢false still)
+  task_changes task now (call.TaskDelete id) still = delete_alters id (task_at tasks id)
+  task_changes task now (call.TaskSetPriority id priority) still = priority_alters id priority
+  task_changes task now (call.TaskDelay ms) still = delay_alters task now ms
+  task_changes task now (call.Hold id) still = hold_alters id (task_at tasks id)
+  task_changes task now (call.Release id) still = one_change tasks.objects (Release id) tt
+  task_changes task now (call.WaitEnd part) still = end_alters task now part
+  task_changes task now (call.WaitAbandon part) still = abandon_alters task part
+  task_changes task now other still = unchanged tasks.objects
 
   -- a call of the part makes one move
   pub task_moves : (task : ℕ) (now : Moment) (made : Call) → Moves (task_step tasks task now made)
   task_moves task now (call.TaskCreate name body stack priority) =
       create_moves name.bytes body stack priority (name_fault name.bytes)
   task_moves task now call.TaskExit = removal_moves task
-  task_moves task now (call.TaskDelete id) = delete_moves id (task_at tasks id)
-  task_moves task now (call.TaskSetPriority id priority) = priority_moves id priority
-  task_moves task now (call.TaskDelay ms) = delay_moves task now ms
   task_moves task now call.Checkpoint = checkpoint_moves task (task_at tasks task)
-  task_moves task now (call.Hold id) = hold_moves id (task_at tasks id)
-  task_moves task now (call.Release id) = changes tasks.objects (Release id) tt
-  task_moves task now (call.WaitEnd part) = end_moves task now part
-  task_moves task now (call.WaitAbandon part) = abandon_moves task part
-  task_moves task now other = stays tasks.objects
+  task_moves task now other = by_changes tasks.objects _ (task_changes task now other refl)
+
+  -- a call that creates no task and removes none leaves the same tasks active
+  pub task_alike : (task : ℕ) (now : Moment) (made : Call) → moves_tasks made ≡ false → Alike tasks.objects.table (task_step tasks task now made).1.objects.table
+  task_alike task now made still = changes_leave tasks.objects _ (task_changes task now made still)

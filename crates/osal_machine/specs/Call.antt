@@ -1,5 +1,5 @@
 -- The calls of the machine, as contracts see them.
-use Rattle.std.specs.Prelude.{◌==◌, ℕ, List, nat_lt, if◌then◌else◌}
+use Rattle.std.specs.Prelude.{◌==◌, ℕ, Bool, true, false, List, nat_lt, if◌then◌else◌}
 use Rattle.osal_base.specs.Identifier.{type_of}
 use Rattle.osal_base.specs.Text.{Text}
 use Rattle.osal_machine.specs.declared.call.Call.{Call}
@@ -29,7 +29,8 @@ part_of_id id = part_of_type (type_of id)
 abbrev pub part_of_wait : ℕ → ℕ
 part_of_wait part = if nat_lt 8 part then 0 else part
 
--- the number of the part whose call it is: 0 for tasks, 3 for binary semaphores, 6 for time
+-- the number of the part whose call it is: 0 for tasks, 1 for queues, 2 and 3 for counting and binary semaphores, 4 for
+-- mutexes, 5 for condition variables, 6 for time
 abbrev pub part_of : Call → ℕ
 part_of (call.TaskCreate name body stack priority) = 0
 part_of call.TaskExit = 0
@@ -39,6 +40,18 @@ part_of (call.TaskFind name) = 0
 part_of (call.TaskInfo id) = 0
 part_of (call.TaskDelay ms) = 0
 part_of call.Checkpoint = 0
+part_of (call.QueueCreate name depth size) = 1
+part_of (call.QueueDelete id) = 1
+part_of (call.QueuePut id payload) = 1
+part_of (call.QueueGet id n wait) = 1
+part_of (call.QueueFind name) = 1
+part_of (call.QueueInfo id) = 1
+part_of (call.CountSemCreate name value) = 2
+part_of (call.CountSemGive id) = 2
+part_of (call.CountSemTake id wait) = 2
+part_of (call.CountSemDelete id) = 2
+part_of (call.CountSemFind name) = 2
+part_of (call.CountSemInfo id) = 2
 part_of (call.BinSemCreate name value) = 3
 part_of (call.BinSemGive id) = 3
 part_of (call.BinSemFlush id) = 3
@@ -46,11 +59,30 @@ part_of (call.BinSemTake id wait) = 3
 part_of (call.BinSemDelete id) = 3
 part_of (call.BinSemFind name) = 3
 part_of (call.BinSemInfo id) = 3
+part_of (call.MutSemCreate name) = 4
+part_of (call.MutSemTake id) = 4
+part_of (call.MutSemGive id) = 4
+part_of (call.MutSemDelete id) = 4
+part_of (call.MutSemFind name) = 4
+part_of (call.MutSemInfo id) = 4
+part_of (call.CondvarCreate name) = 5
+part_of (call.CondvarLock id) = 5
+part_of (call.CondvarUnlock id) = 5
+part_of (call.CondvarSignal id) = 5
+part_of (call.CondvarBroadcast id) = 5
+part_of (call.CondvarWait id wait) = 5
+part_of (call.CondvarDelete id) = 5
+part_of (call.CondvarFind name) = 5
 part_of (call.Advance to) = 6
 part_of (call.Hold id) = part_of_id id
 part_of (call.Release id) = part_of_id id
 part_of (call.WaitEnd part) = part_of_wait part
 part_of (call.WaitAbandon part) = part_of_wait part
+
+-- whether a call may take memory: a queue takes its storage when it is made
+abbrev pub takes_memory : Call → Bool
+takes_memory (call.QueueCreate name depth size) = true
+takes_memory other = false
 
 -- bytes without the room that is left beside them, which says nothing of a call
 abbrev pub trimmed : Text → Text
@@ -70,6 +102,18 @@ said (call.TaskFind name) = call.TaskFind (trimmed name)
 said (call.TaskInfo id) = call.TaskInfo id
 said (call.TaskDelay ms) = call.TaskDelay ms
 said call.Checkpoint = call.Checkpoint
+said (call.QueueCreate name depth size) = call.QueueCreate (trimmed name) depth size
+said (call.QueueDelete id) = call.QueueDelete id
+said (call.QueuePut id payload) = call.QueuePut id (trimmed payload)
+said (call.QueueGet id n wait) = call.QueueGet id n wait
+said (call.QueueFind name) = call.QueueFind (trimmed name)
+said (call.QueueInfo id) = call.QueueInfo id
+said (call.CountSemCreate name value) = call.CountSemCreate (trimmed name) value
+said (call.CountSemGive id) = call.CountSemGive id
+said (call.CountSemTake id wait) = call.CountSemTake id wait
+said (call.CountSemDelete id) = call.CountSemDelete id
+said (call.CountSemFind name) = call.CountSemFind (trimmed name)
+said (call.CountSemInfo id) = call.CountSemInfo id
 said (call.BinSemCreate name value) = call.BinSemCreate (trimmed name) value
 said (call.BinSemGive id) = call.BinSemGive id
 said (call.BinSemFlush id) = call.BinSemFlush id
@@ -77,6 +121,20 @@ said (call.BinSemTake id wait) = call.BinSemTake id wait
 said (call.BinSemDelete id) = call.BinSemDelete id
 said (call.BinSemFind name) = call.BinSemFind (trimmed name)
 said (call.BinSemInfo id) = call.BinSemInfo id
+said (call.MutSemCreate name) = call.MutSemCreate (trimmed name)
+said (call.MutSemTake id) = call.MutSemTake id
+said (call.MutSemGive id) = call.MutSemGive id
+said (call.MutSemDelete id) = call.MutSemDelete id
+said (call.MutSemFind name) = call.MutSemFind (trimmed name)
+said (call.MutSemInfo id) = call.MutSemInfo id
+said (call.CondvarCreate name) = call.CondvarCreate (trimmed name)
+said (call.CondvarLock id) = call.CondvarLock id
+said (call.CondvarUnlock id) = call.CondvarUnlock id
+said (call.CondvarSignal id) = call.CondvarSignal id
+said (call.CondvarBroadcast id) = call.CondvarBroadcast id
+said (call.CondvarWait id wait) = call.CondvarWait id wait
+said (call.CondvarDelete id) = call.CondvarDelete id
+said (call.CondvarFind name) = call.CondvarFind (trimmed name)
 said (call.Advance to) = call.Advance to
 said (call.Hold id) = call.Hold id
 said (call.Release id) = call.Release id

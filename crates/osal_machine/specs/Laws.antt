@@ -1,5 +1,5 @@
 -- What holds of every history of the machine.
-use Rattle.std.specs.Prelude.{◌≡◌, ◌≢◌, ◌<◌, ◌-◌, ◌^◌, ◌++◌, ℕ, List, [], ◌∷◌, Bool, true, false, Option, Some, None, nat_lt}
+use Rattle.std.specs.Prelude.{◌≡◌, ◌≢◌, ◌==◌, ◌<◌, ◌-◌, ◌^◌, ◌++◌, ℕ, List, [], ◌∷◌, Bool, true, false, Option, Some, None, length, nat_lt}
 use Rattle.osal_base.specs.declared.limits.Limits.{Limits}
 use Rattle.osal_base.specs.declared.status.Status.TheVariants as status
 use Rattle.osal_base.specs.declared.time.Moment.{Moment}
@@ -7,12 +7,16 @@ use Rattle.osal_base.specs.Reply.{reply_of, refusal, deleted}
 use Rattle.osal_idtable.specs.Table.{Active}
 use Rattle.osal_task.specs.declared.part.Task.{Task}
 use Rattle.osal_task.specs.Tasks.{task_at, lowest_priority}
+use Rattle.osal_queue.specs.Queues.{queue_at}
+use Rattle.osal_sem.specs.Counting.{count_sem_at}
 use Rattle.osal_sem.specs.Binary.{bin_sem_at}
+use Rattle.osal_mutex.specs.Mutexes.{mutex_at}
+use Rattle.osal_condvar.specs.Condvars.{condvar_at}
 use Rattle.osal_machine.specs.declared.call.Call.{Call}
 use Rattle.osal_machine.specs.declared.call.Call.TheVariants as call
 use Rattle.osal_machine.specs.declared.call.Entry.{Entry}
 use Rattle.osal_machine.specs.Call.{part_of, part_of_id}
-use Rattle.osal_machine.specs.Parts.{PartState, Tasks, BinSems, Time, Absent, is_active_in}
+use Rattle.osal_machine.specs.Parts.{PartState, Tasks, Queues, CountSems, BinSems, Mutexes, Condvars, Time, Absent, is_active_in}
 use Rattle.osal_machine.specs.Step.{MachineState, part_in, step, is_active}
 use Rattle.osal_machine.specs.History.{IsLegal, replay, entries_of_part}
 
@@ -23,11 +27,29 @@ subject_of task call.Checkpoint = Some task
 subject_of task (call.TaskDelete id) = Some id
 subject_of task (call.TaskSetPriority id priority) = Some id
 subject_of task (call.TaskInfo id) = Some id
+subject_of task (call.QueueDelete id) = Some id
+subject_of task (call.QueuePut id payload) = Some id
+subject_of task (call.QueueGet id n wait) = Some id
+subject_of task (call.QueueInfo id) = Some id
+subject_of task (call.CountSemGive id) = Some id
+subject_of task (call.CountSemTake id wait) = Some id
+subject_of task (call.CountSemDelete id) = Some id
+subject_of task (call.CountSemInfo id) = Some id
 subject_of task (call.BinSemGive id) = Some id
 subject_of task (call.BinSemFlush id) = Some id
 subject_of task (call.BinSemTake id wait) = Some id
 subject_of task (call.BinSemDelete id) = Some id
 subject_of task (call.BinSemInfo id) = Some id
+subject_of task (call.MutSemTake id) = Some id
+subject_of task (call.MutSemGive id) = Some id
+subject_of task (call.MutSemDelete id) = Some id
+subject_of task (call.MutSemInfo id) = Some id
+subject_of task (call.CondvarLock id) = Some id
+subject_of task (call.CondvarUnlock id) = Some id
+subject_of task (call.CondvarSignal id) = Some id
+subject_of task (call.CondvarBroadcast id) = Some id
+subject_of task (call.CondvarWait id wait) = Some id
+subject_of task (call.CondvarDelete id) = Some id
 subject_of task (call.Hold id) = Some id
 subject_of task (call.Release id) = Some id
 subject_of task other = None
@@ -35,6 +57,7 @@ subject_of task other = None
 -- whether a call is refused before its identifier is looked at
 abbrev pub is_refused_before : Call → Bool
 is_refused_before (call.TaskSetPriority id priority) = nat_lt lowest_priority priority
+is_refused_before (call.QueuePut id payload) = length payload.bytes == 0
 is_refused_before other = false
 
 -- whether an entry's call is on an identifier that is active in the part of the call
@@ -54,7 +77,11 @@ StaleIdentifiersAreRefused =
 -- the wrap count of a part's table of objects; a part without one has none
 abbrev pub wraps_in : PartState → ℕ
 wraps_in (Tasks tasks) = tasks.objects.table.wraps
+wraps_in (Queues queues) = queues.objects.table.wraps
+wraps_in (CountSems sems) = sems.objects.table.wraps
 wraps_in (BinSems sems) = sems.objects.table.wraps
+wraps_in (Mutexes mutexes) = mutexes.objects.table.wraps
+wraps_in (Condvars condvars) = condvars.objects.table.wraps
 wraps_in (Time time) = 0
 wraps_in Absent = 0
 
@@ -84,7 +111,11 @@ holds_of (Some active) = active.holds
 -- the holds of an identifier in a part
 abbrev pub holds_in : PartState → ℕ → ℕ
 holds_in (Tasks tasks) id = holds_of (task_at tasks id)
+holds_in (Queues queues) id = holds_of (queue_at queues id)
+holds_in (CountSems sems) id = holds_of (count_sem_at sems id)
 holds_in (BinSems sems) id = holds_of (bin_sem_at sems id)
+holds_in (Mutexes mutexes) id = holds_of (mutex_at mutexes id)
+holds_in (Condvars condvars) id = holds_of (condvar_at condvars id)
 holds_in (Time time) id = 0
 holds_in Absent id = 0
 

@@ -4,35 +4,59 @@ use Rattle.osal_base.specs.declared.limits.Limits.{Limits}
 use Rattle.osal_base.specs.declared.time.Moment.{Moment}
 use Rattle.osal_base.specs.Reply.{Replied, is_waits}
 use Rattle.osal_task.specs.Tasks.{TaskState, no_tasks}
+use Rattle.osal_queue.specs.Queues.{QueueState, no_queues}
+use Rattle.osal_sem.specs.Counting.{CountSemState, no_count_sems}
 use Rattle.osal_sem.specs.Binary.{BinSemState, no_bin_sems}
+use Rattle.osal_mutex.specs.Mutexes.{MutexState, no_mutexes}
+use Rattle.osal_condvar.specs.Condvars.{CondvarState, no_condvars}
 use Rattle.osal_machine.specs.Call.{part_of, part_of_id}
 use Rattle.osal_machine.specs.Time.{TimeState, time_start}
-use Rattle.osal_machine.specs.Parts.{PartState, Tasks, BinSems, Time, Absent, part_step, is_active_in}
+use Rattle.osal_machine.specs.Parts.{PartState, Tasks, Queues, CountSems, BinSems, Mutexes, Condvars, Time, Absent, part_step, is_active_in}
 use Rattle.osal_machine.specs.declared.call.Call.{Call}
 use Rattle.osal_machine.specs.declared.call.Call.TheVariants as call
 
 -- the states of the parts that are built
 pub record MachineState : Type 0 where
   pub tasks : TaskState
+  pub queues : QueueState
+  pub count_sems : CountSemState
   pub bin_sems : BinSemState
+  pub mutexes : MutexState
+  pub condvars : CondvarState
   pub time : TimeState
 
 -- no objects, at the start of time
 abbrev pub opening : Limits → MachineState
-opening limits = record { tasks = no_tasks limits; bin_sems = no_bin_sems limits; time = time_start }
+opening limits = record {
+  tasks = no_tasks limits;
+  queues = no_queues limits;
+  count_sems = no_count_sems limits;
+  bin_sems = no_bin_sems limits;
+  mutexes = no_mutexes limits;
+  condvars = no_condvars limits;
+  time = time_start;
+}
 
 -- the part of that number
 abbrev pub part_in : ℕ → MachineState → PartState
 part_in part state =
     if part == 0 then Tasks state.tasks
+    else (if part == 1 then Queues state.queues
+    else (if part == 2 then CountSems state.count_sems
     else (if part == 3 then BinSems state.bin_sems
+    else (if part == 4 then Mutexes state.mutexes
+    else (if part == 5 then Condvars state.condvars
     else (if part == 6 then Time state.time
-    else Absent))
+    else Absent))))))
 
 -- the machine with another state of a part
 abbrev pub with_part : MachineState → PartState → MachineState
 with_part state (Tasks tasks) = record state { tasks = tasks }
+with_part state (Queues queues) = record state { queues = queues }
+with_part state (CountSems sems) = record state { count_sems = sems }
 with_part state (BinSems sems) = record state { bin_sems = sems }
+with_part state (Mutexes mutexes) = record state { mutexes = mutexes }
+with_part state (Condvars condvars) = record state { condvars = condvars }
 with_part state (Time time) = record state { time = time }
 with_part state Absent = state
 

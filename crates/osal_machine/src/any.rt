@@ -1,11 +1,15 @@
 //! A part of any kind.
-ghost use Rattle.std.specs.Prelude.{◌≡◌, IsTrue, IsOk, IfOk};
+ghost use Rattle.std.specs.Prelude.{◌≡◌, false, IsTrue, IsOk, IfOk, OnErr};
 ghost use Rattle.osal_base.specs.Reply.{replied};
+ghost use Rattle.osal_machine.specs.Call.{takes_memory};
 ghost use Rattle.osal_machine.specs.AnyPart.{view_of_any};
 
 use crate::{Call, Part, TimePart};
 use osal_base::{Ack, Moment, OsalId, OutOfMemory, Room};
-use osal_sem::BinSemPart;
+use osal_condvar::CondvarPart;
+use osal_mutex::MutexPart;
+use osal_queue::QueuePart;
+use osal_sem::{BinSemPart, CountSemPart};
 use osal_task::TaskPart;
 use std::alloc::Global;
 
@@ -13,7 +17,11 @@ use std::alloc::Global;
 #[derive(Drop)]
 pub enum AnyPart {
     Task(TaskPart),
+    Queue(QueuePart),
+    CountSem(CountSemPart),
     BinSem(BinSemPart),
+    Mutex(MutexPart),
+    Condvar(CondvarPart),
     Time(TimePart),
 }
 
@@ -30,7 +38,11 @@ impl Part for AnyPart {
     ) -> Result<Ack, OutOfMemory> {
         match self {
             AnyPart::Task(part) => part.apply(alloc, task, now, call, room),
+            AnyPart::Queue(part) => part.apply(alloc, task, now, call, room),
+            AnyPart::CountSem(part) => part.apply(alloc, task, now, call, room),
             AnyPart::BinSem(part) => part.apply(alloc, task, now, call, room),
+            AnyPart::Mutex(part) => part.apply(alloc, task, now, call, room),
+            AnyPart::Condvar(part) => part.apply(alloc, task, now, call, room),
             AnyPart::Time(part) => part.apply(alloc, task, now, call, room),
         }
     }
@@ -38,7 +50,11 @@ impl Part for AnyPart {
     fn ready(&self, task: OsalId, now: Moment, part: u32) -> bool {
         match self {
             AnyPart::Task(own) => own.ready(task, now, part),
+            AnyPart::Queue(own) => own.ready(task, now, part),
+            AnyPart::CountSem(own) => own.ready(task, now, part),
             AnyPart::BinSem(own) => own.ready(task, now, part),
+            AnyPart::Mutex(own) => own.ready(task, now, part),
+            AnyPart::Condvar(own) => own.ready(task, now, part),
             AnyPart::Time(own) => own.ready(task, now, part),
         }
     }
@@ -46,7 +62,11 @@ impl Part for AnyPart {
     fn active(&self, id: OsalId) -> bool {
         match self {
             AnyPart::Task(part) => part.active(id),
+            AnyPart::Queue(part) => part.active(id),
+            AnyPart::CountSem(part) => part.active(id),
             AnyPart::BinSem(part) => part.active(id),
+            AnyPart::Mutex(part) => part.active(id),
+            AnyPart::Condvar(part) => part.active(id),
             AnyPart::Time(part) => part.active(id),
         }
     }
@@ -54,7 +74,7 @@ impl Part for AnyPart {
     fn goes(&self, task: OsalId) -> bool {
         match self {
             AnyPart::Task(part) => part.goes(task),
-            AnyPart::BinSem(_) | AnyPart::Time(_) => false,
+            _ => false,
         }
     }
 }

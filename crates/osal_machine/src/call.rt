@@ -39,6 +39,61 @@ pub enum Call {
     },
     /// The place at which a task learns whether it goes on.
     Checkpoint,
+    /// `OS_QueueCreate`.
+    QueueCreate {
+        name: Bytes,
+        depth: u32,
+        size: u32,
+    },
+    /// `OS_QueueDelete`.
+    QueueDelete {
+        id: OsalId,
+    },
+    /// `OS_QueuePut`.
+    QueuePut {
+        id: OsalId,
+        payload: Bytes,
+    },
+    /// `OS_QueueGet`, with room for `n` bytes.
+    QueueGet {
+        id: OsalId,
+        n: u32,
+        wait: Timeout,
+    },
+    /// `OS_QueueGetIdByName`.
+    QueueFind {
+        name: Bytes,
+    },
+    /// `OS_QueueGetInfo`.
+    QueueInfo {
+        id: OsalId,
+    },
+    /// `OS_CountSemCreate`.
+    CountSemCreate {
+        name: Bytes,
+        value: u32,
+    },
+    /// `OS_CountSemGive`.
+    CountSemGive {
+        id: OsalId,
+    },
+    /// `OS_CountSemTake` and `OS_CountSemTimedWait`.
+    CountSemTake {
+        id: OsalId,
+        wait: Timeout,
+    },
+    /// `OS_CountSemDelete`.
+    CountSemDelete {
+        id: OsalId,
+    },
+    /// `OS_CountSemGetIdByName`.
+    CountSemFind {
+        name: Bytes,
+    },
+    /// `OS_CountSemGetInfo`.
+    CountSemInfo {
+        id: OsalId,
+    },
     /// `OS_BinSemCreate`.
     BinSemCreate {
         name: Bytes,
@@ -68,6 +123,63 @@ pub enum Call {
     /// `OS_BinSemGetInfo`.
     BinSemInfo {
         id: OsalId,
+    },
+    /// `OS_MutSemCreate`.
+    MutSemCreate {
+        name: Bytes,
+    },
+    /// `OS_MutSemTake`.
+    MutSemTake {
+        id: OsalId,
+    },
+    /// `OS_MutSemGive`.
+    MutSemGive {
+        id: OsalId,
+    },
+    /// `OS_MutSemDelete`.
+    MutSemDelete {
+        id: OsalId,
+    },
+    /// `OS_MutSemGetIdByName`.
+    MutSemFind {
+        name: Bytes,
+    },
+    /// `OS_MutSemGetInfo`.
+    MutSemInfo {
+        id: OsalId,
+    },
+    /// `OS_CondVarCreate`.
+    CondvarCreate {
+        name: Bytes,
+    },
+    /// `OS_CondVarLock`.
+    CondvarLock {
+        id: OsalId,
+    },
+    /// `OS_CondVarUnlock`.
+    CondvarUnlock {
+        id: OsalId,
+    },
+    /// `OS_CondVarSignal`.
+    CondvarSignal {
+        id: OsalId,
+    },
+    /// `OS_CondVarBroadcast`.
+    CondvarBroadcast {
+        id: OsalId,
+    },
+    /// `OS_CondVarWait` and `OS_CondVarTimedWait`.
+    CondvarWait {
+        id: OsalId,
+        wait: Timeout,
+    },
+    /// `OS_CondVarDelete`.
+    CondvarDelete {
+        id: OsalId,
+    },
+    /// `OS_CondVarGetIdByName`.
+    CondvarFind {
+        name: Bytes,
     },
     /// Virtual time goes on to a later moment, in milliseconds.
     Advance {
@@ -126,7 +238,8 @@ pub(crate) fn part_of_id(id: OsalId) -> u32
     part_of_type(id.raw() / 65536)
 }
 
-/// The number of the part whose call it is: 0 for tasks, 3 for binary semaphores, 6 for time.
+/// The number of the part whose call it is: 0 for tasks, 1 for queues, 2 and 3 for counting and binary semaphores,
+/// 4 for mutexes, 5 for condition variables, 6 for time.
 ///
 /// A hold and a release go to the part of the identifier's type, the end of a wait to the part of its number.
 /// What has no part goes to part 0.
@@ -142,6 +255,18 @@ pub fn part_of(call: &Call) -> u32
         | Call::TaskInfo { .. }
         | Call::TaskDelay { .. }
         | Call::Checkpoint => 0,
+        Call::QueueCreate { .. }
+        | Call::QueueDelete { .. }
+        | Call::QueuePut { .. }
+        | Call::QueueGet { .. }
+        | Call::QueueFind { .. }
+        | Call::QueueInfo { .. } => 1,
+        Call::CountSemCreate { .. }
+        | Call::CountSemGive { .. }
+        | Call::CountSemTake { .. }
+        | Call::CountSemDelete { .. }
+        | Call::CountSemFind { .. }
+        | Call::CountSemInfo { .. } => 2,
         Call::BinSemCreate { .. }
         | Call::BinSemGive { .. }
         | Call::BinSemFlush { .. }
@@ -149,6 +274,20 @@ pub fn part_of(call: &Call) -> u32
         | Call::BinSemDelete { .. }
         | Call::BinSemFind { .. }
         | Call::BinSemInfo { .. } => 3,
+        Call::MutSemCreate { .. }
+        | Call::MutSemTake { .. }
+        | Call::MutSemGive { .. }
+        | Call::MutSemDelete { .. }
+        | Call::MutSemFind { .. }
+        | Call::MutSemInfo { .. } => 4,
+        Call::CondvarCreate { .. }
+        | Call::CondvarLock { .. }
+        | Call::CondvarUnlock { .. }
+        | Call::CondvarSignal { .. }
+        | Call::CondvarBroadcast { .. }
+        | Call::CondvarWait { .. }
+        | Call::CondvarDelete { .. }
+        | Call::CondvarFind { .. } => 5,
         Call::Advance { .. } => 6,
         Call::Hold { id } | Call::Release { id } => part_of_id(*id),
         Call::WaitEnd { part } | Call::WaitAbandon { part } => { if 8 < *part { 0 } else { *part } }

@@ -1,4 +1,5 @@
 //! What holds of every history of the machine, as clauses of functions that do nothing.
+ghost use Rattle.osal_machine.specs.QueueLaw.{QueuesKeepTheirOrder};
 ghost use Rattle.osal_machine.specs.Laws.{StaleIdentifiersAreRefused, WrapCountRises, HeldObjectsAreKept, CallsChangeTheirPart, PartsReplayAlone, MarkedTasksAreUnheld, DeletedTasksAreGone};
 
 /// An entry on an identifier that is not active is refused by that, where nothing refuses it before.
@@ -34,4 +35,9 @@ pub fn marked_tasks_are_unheld()
 /// A checkpoint that answers that its task was deleted has removed it.
 pub fn deleted_tasks_are_gone()
     ensures { DeletedTasksAreGone }
+{}
+
+/// The gets of a queue give the messages that it accepted, in order, each once; the rest is what it holds.
+pub fn queues_keep_their_order()
+    ensures { QueuesKeepTheirOrder }
 {}

@@ -1,5 +1,6 @@
 //! What the parts have in common.
-ghost use Rattle.std.specs.Prelude.{◌≡◌, IsTrue, IsOk, IfOk};
+ghost use Rattle.std.specs.Prelude.{◌≡◌, false, IsTrue, IsOk, IfOk, OnErr};
+ghost use Rattle.osal_machine.specs.Call.{takes_memory};
 ghost use Rattle.osal_base.specs.Reply.{replied};
 ghost use Rattle.osal_machine.specs.Views.{PartView, is_own, view_step, is_ready_in, is_active_at, goes_at};
 ghost use Rattle.osal_machine.specs.declared.call.Call.TheVariants.{WaitEnd};
@@ -15,7 +16,7 @@ pub trait Part {
 
     /// Makes a call that is the part's own. The bytes of the reply are left in the room.
     ///
-    /// No call that is built takes memory.
+    /// Only the creation of a queue takes memory; where there is none, nothing changes.
     fn apply(
         &mut self,
         alloc: Global,
@@ -26,7 +27,8 @@ pub trait Part {
     ) -> Result<Ack, OutOfMemory>
         requires { IsTrue (is_own (view self.old) call.now) }
         ensures step { IfOk result (λ ack. (replied ack room.new, view self.new) ≡ view_step (view self.old) task now call.now) }
-        ensures memory { IsOk result };
+        ensures kept { OnErr result (view self.new ≡ view self.old) }
+        ensures memory { takes_memory call.now ≡ false → IsOk result };
 
     /// Whether the end of a task's wait in the part of that number would not answer `Waits`.
     fn ready(&self, task: OsalId, now: Moment, part: u32) -> bool

@@ -55,9 +55,9 @@ fn an_identifier_is_of_the_part_of_its_type(rt: HostRuntime) {
 }
 
 #[test]
-fn what_is_not_built_has_no_objects_and_no_waits(rt: HostRuntime) -> Result<(), Fail> {
+fn what_is_not_there_has_no_objects_and_no_waits(rt: HostRuntime) -> Result<(), Fail> {
     let mut whole = Whole::open(rt.alloc(), &Limits::version1())?;
-    for part in [1, 2, 4, 5, 6, 7, 8, 9] {
+    for part in [1, 2, 3, 4, 5, 6, 7, 8, 9] {
         let answer = made(&rt, &mut whole, &Call::WaitEnd { part })?;
         assert_eq!(rt; answer, refused(ErrIncorrectObjState), "part {part}");
         assert!(rt; whole.ready(OsalId::of_raw(A), Moment::START, part));
@@ -98,25 +98,7 @@ fn look<P: Part>(part: &P) -> (bool, bool) {
 }
 
 #[test]
-fn a_task_goes_on_until_it_is_marked(rt: HostRuntime) -> Result<(), Fail> {
-    let mut whole = Whole::open(rt.alloc(), &Limits::version1())?;
-    assert_eq!(rt; look(&whole), (false, false));
-    let create = Call::TaskCreate {
-        name: Bytes::copy(rt.alloc(), b"a")?,
-        body: 0,
-        stack: 0,
-        priority: 0,
-    };
-    assert_eq!(rt; made(&rt, &mut whole, &create)?, Answer::Code(0));
-    assert_eq!(rt; look(&whole), (true, true));
-    let id = OsalId::of_raw(A);
-    assert_eq!(rt;
-        made(&rt, &mut whole, &Call::TaskDelete { id })?,
-        Answer::Code(0)
-    );
-    assert_eq!(rt; look(&whole), (true, false));
-    assert_eq!(rt; made(&rt, &mut whole, &Call::Checkpoint)?, Answer::Deleted);
-    assert_eq!(rt; look(&whole), (false, false));
+fn a_part_alone_is_seen_as_the_machine_is(rt: HostRuntime) -> Result<(), Fail> {
     assert_eq!(rt; look(&AnyPart::Time(TimePart::new())), (false, false));
     let tasks = TaskPart::open(rt.alloc(), &Limits::version1())?;
     assert_eq!(rt; look(&AnyPart::Task(tasks)), (false, false));

@@ -1,8 +1,9 @@
 //! The machine of all parts under one hand.
-ghost use Rattle.std.specs.Prelude.{◌≡◌, IsOk, IfOk};
+ghost use Rattle.std.specs.Prelude.{◌≡◌, false, IsOk, IfOk, OnErr};
 ghost use Rattle.osal_base.specs.Limits.{Fits};
 ghost use Rattle.osal_base.specs.Reply.{replied};
 ghost use Rattle.osal_task.specs.Tasks.{goes};
+ghost use Rattle.osal_machine.specs.Call.{takes_memory};
 ghost use Rattle.osal_machine.specs.Step.{opening, step, is_ready, is_active};
 ghost use Rattle.osal_machine.specs.Deadlines.{next_deadline};
 ghost use Rattle.osal_machine.specs.Views.{All};
@@ -11,8 +12,11 @@ use crate::call::part_of_id;
 use crate::parts::absent;
 use crate::{Call, Part, TimePart, part_of};
 use osal_base::{Ack, Limits, Moment, OsalId, OutOfMemory, Room};
+use osal_condvar::CondvarPart;
 use osal_idtable::sooner;
-use osal_sem::BinSemPart;
+use osal_mutex::MutexPart;
+use osal_queue::QueuePart;
+use osal_sem::{BinSemPart, CountSemPart};
 use osal_task::TaskPart;
 use std::alloc::Global;
 use std::marker::Model;
@@ -21,7 +25,11 @@ use std::marker::Model;
 #[derive(Drop)]
 pub struct Whole {
     tasks: TaskPart,
+    queues: QueuePart,
+    count_sems: CountSemPart,
     bin_sems: BinSemPart,
+    mutexes: MutexPart,
+    condvars: CondvarPart,
     time: TimePart,
 }
 
@@ -34,7 +42,7 @@ impl Model for Whole {
 
     ghost coded = { Prim.hlevel (codes, objects_code) };
 
-    ghost view = { λ a. record { tasks = a.tasks; bin_sems = a.bin_sems; time = a.time } };
+    ghost view = { λ a. record { tasks = a.tasks; queues = a.queues; count_sems = a.count_sems; bin_sems = a.bin_sems; mutexes = a.mutexes; condvars = a.condvars; time = a.time } };
 
     ghost invariant = { λ a. Unit {0} };
 }
@@ -47,12 +55,18 @@ impl Whole {
     {
         Ok(Whole {
             tasks: TaskPart::open(alloc, limits)?,
+            queues: QueuePart::open(alloc, limits)?,
+            count_sems: CountSemPart::open(alloc, limits)?,
             bin_sems: BinSemPart::open(alloc, limits)?,
+            mutexes: MutexPart::open(alloc, limits)?,
+            condvars: CondvarPart::open(alloc, limits)?,
             time: TimePart::new(),
         })
     }
 
     /// Makes a call of a task: one step of the machine. The bytes of the reply are left in the room.
+    ///
+    /// Only the creation of a queue takes memory; where there is none, nothing changes.
     pub fn apply(
         &mut self,
         alloc: Global,
@@ -62,11 +76,16 @@ impl Whole {
         room: &mut Room,
     ) -> Result<Ack, OutOfMemory>
         ensures step { IfOk result (λ ack. (replied ack room.new, self.new) ≡ step self.old task now call.now) }
-        ensures memory { IsOk result }
+        ensures kept { OnErr result (self.new ≡ self.old) }
+        ensures memory { takes_memory call.now ≡ false → IsOk result }
     {
         match part_of(call) {
             0 => Part::apply(&mut self.tasks, alloc, task, now, call, room),
+            1 => Part::apply(&mut self.queues, alloc, task, now, call, room),
+            2 => Part::apply(&mut self.count_sems, alloc, task, now, call, room),
             3 => Part::apply(&mut self.bin_sems, alloc, task, now, call, room),
+            4 => Part::apply(&mut self.mutexes, alloc, task, now, call, room),
+            5 => Part::apply(&mut self.condvars, alloc, task, now, call, room),
             6 => Part::apply(&mut self.time, alloc, task, now, call, room),
             _ => {
                 room.clear();
@@ -80,8 +99,12 @@ impl Whole {
         ensures { result ≡ is_ready self.now task now part }
     {
         match part {
+            1 => self.queues.ready(task, now, part),
+            2 => self.count_sems.ready(task, now, part),
             3 => self.bin_sems.ready(task, now, part),
-            1 | 2 | 4 | 5 | 6 | 7 | 8 => true,
+            4 => self.mutexes.ready(task, now, part),
+            5 => self.condvars.ready(task, now, part),
+            6 | 7 | 8 => true,
             _ => self.tasks.ready(task, now, part),
         }
     }
@@ -92,7 +115,11 @@ impl Whole {
     {
         match part_of_id(id) {
             0 => self.tasks.active(id),
+            1 => self.queues.active(id),
+            2 => self.count_sems.active(id),
             3 => self.bin_sems.active(id),
+            4 => self.mutexes.active(id),
+            5 => self.condvars.active(id),
             _ => false,
         }
     }
@@ -116,10 +143,15 @@ impl Whole {
         ensures { result ≡ next_deadline self.now }
     {
         let now = self.moment();
-        sooner(
-            self.tasks.next_deadline(now),
-            self.bin_sems.next_deadline(now),
-        )
+        let tasks = self.tasks.next_deadline(now);
+        let queues = self.queues.next_deadline(now);
+        let count_sems = self.count_sems.next_deadline(now);
+        let bin_sems = self.bin_sems.next_deadline(now);
+        let mutexes = self.mutexes.next_deadline(now);
+        let condvars = self.condvars.next_deadline(now);
+        let of_locks = sooner(mutexes, condvars);
+        let of_sems = sooner(count_sems, sooner(bin_sems, of_locks));
+        sooner(tasks, sooner(queues, of_sems))
     }
 }
 

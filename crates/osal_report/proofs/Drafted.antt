@@ -4,7 +4,7 @@ use Rattle.std.specs.List.{AllByRecursion}
 use Rattle.std.proofs.lemmas.List.{length-append, map-append, take_more}
 use Rattle.osal_machine.specs.declared.call.Entry.{Entry}
 use Rattle.osal_script.specs.App.{Application}
-use Rattle.osal_script.specs.Segments.{Segment, has_segment, joined, begun, recorded, segments_from}
+use Rattle.osal_runs.specs.Segments.{Segment, has_segment, joined, begun, recorded, segments_from}
 use Rattle.osal_report.specs.Cases.{Case, passes, case_mark, case_text, cases_text, cases_of, passed, failed}
 use Rattle.osal_report.specs.Draft.{draft_of, IsCounted, place_before, newest_place, noted_if, joined_drafts}
 use Rattle.osal_report.proofs.Pushed.{either, draft_push}

@@ -5,8 +5,8 @@ use Rattle.std.proofs.lemmas.List.{append-nil, length_push, get_or_push}
 use Rattle.std.proofs.lemmas.Option.{slice_get-get_or}
 use Rattle.osal_machine.specs.declared.call.Entry.{Entry}
 use Rattle.osal_script.specs.Script.{ScriptState, start_of, after_entry, reached}
-use Rattle.osal_script.proofs.Segments.{reached_push}
-use Rattle.osal_script.specs.Segments.{Segment, script_in}
+use Rattle.osal_runs.proofs.Segments.{reached_push}
+use Rattle.osal_runs.specs.Segments.{Segment, script_in}
 use Rattle.osal_report.specs.Cases.{Case, passes, case_by, case_text, cases_text, cases_from, passed, failed}
 use Rattle.osal_report.specs.Report.{is_exit_entry}
 use Rattle.osal_report.specs.Draft.{DraftState, draft_of, noted}

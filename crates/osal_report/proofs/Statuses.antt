@@ -4,9 +4,9 @@ use Rattle.osal_base.specs.Limits.{version1}
 use Rattle.osal_machine.specs.declared.call.Entry.{Entry}
 use Rattle.osal_machine.specs.History.{replay}
 use Rattle.osal_script.specs.App.{Application, NamesLater}
-use Rattle.osal_script.specs.Segments.{segments_of}
-use Rattle.osal_script.specs.Runs.{IsPartRun}
-use Rattle.osal_script.proofs.OpenWaitLaw.{open_waits_are_scripts}
+use Rattle.osal_runs.specs.Segments.{segments_of}
+use Rattle.osal_runs.specs.Runs.{IsPartRun}
+use Rattle.osal_runs.proofs.OpenWaitLaw.{open_waits_are_scripts}
 use Rattle.osal_report.specs.Report.{all_failed}
 use Rattle.osal_report.specs.Ends.{some_stalls}
 use Rattle.osal_report.specs.Status.{has_open_waits, status_of}

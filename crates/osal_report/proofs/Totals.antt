@@ -5,7 +5,7 @@ use Rattle.std.proofs.lemmas.List.{length-append, length-map}
 use Rattle.std.proofs.lemmas.List.Sums.{sum_by-cons}
 use Rattle.osal_script.specs.Script.{Pending}
 use Rattle.osal_script.specs.Cursor.{first_line}
-use Rattle.osal_script.specs.Segments.{Segment, script_in}
+use Rattle.osal_runs.specs.Segments.{Segment, script_in}
 use Rattle.osal_report.specs.Cases.{cases_of, cases_text, passed, failed}
 use Rattle.osal_report.specs.Report.{is_stalled, how_text, stall_of, begin_text, end_text, total_text, segment_text, segments_text, all_passed, all_failed, report_of}
 use Rattle.osal_report.specs.Draft.{DraftState, draft_of, draft_text, stall_of_line, IsCounted}

@@ -1,20 +1,23 @@
 -- A wait is open at the end of a run where the script of some task stalls.
-use Rattle.std.proofs.Common.{◌≡◌, ◌⊎◌, ◌==◌, ◌||◌, List, [], ◌∷◌, ℕ, Bool, true, false, cond, is_some, find, inl, inr, refl, sym, ap, ◌∙◌, ⊎_elim}
+use Rattle.std.proofs.Common.{◌≡◌, ◌⊎◌, ◌==◌, ◌||◌, List, [], ◌∷◌, ℕ, Bool, true, false, cond, inl, inr, refl, sym, ap, ◌∙◌}
 use Rattle.std.proofs.lemmas.Bool.{cases_Bool, eq-eqb}
-use Rattle.osal_idtable.specs.declared.waits.WaitRecord.{WaitRecord}
-use Rattle.osal_idtable.specs.Waits.{is_of as is_wait_of}
-use Rattle.osal_machine.specs.Step.{MachineState}
+use Rattle.std.specs.List.{list_any}
+use Rattle.osal_machine.specs.Step.{MachineState, part_in}
+use Rattle.osal_machine.specs.OpenWaits.{part_numbers, has_wait, has_waits}
+use Rattle.osal_machine.proofs.CallWaits.{near_part}
+use Rattle.osal_machine.proofs.DueCounts.{any_part}
+use Rattle.osal_machine.proofs.OpenParts.{waits_there, has_there}
 use Rattle.osal_script.specs.declared.phase.Phase.{Phase}
 use Rattle.osal_script.specs.declared.phase.Phase.TheVariants as phase
 use Rattle.osal_script.specs.App.{Application}
 use Rattle.osal_script.specs.Script.{ScriptState, is_ended}
-use Rattle.osal_script.specs.Segments.{Segment, script_in, has_segment, is_of}
-use Rattle.osal_script.specs.Runs.{EndsBefore}
-use Rattle.osal_script.specs.Linked.{no_script, newest_script, waits_in, waits_well, IsLinked}
-use Rattle.osal_script.proofs.Segments.{newest_none}
+use Rattle.osal_runs.specs.Segments.{Segment, script_in, has_segment, is_of}
+use Rattle.osal_runs.specs.Runs.{EndsBefore}
+use Rattle.osal_runs.specs.Linked.{no_script, newest_script, waits_in, IsLinked}
+use Rattle.osal_runs.proofs.Segments.{newest_none}
 use Rattle.osal_report.specs.Report.{is_stalled}
 use Rattle.osal_report.specs.Ends.{stalls, some_stalls}
-use Rattle.osal_report.specs.Status.{is_some_of, has_open_waits}
+use Rattle.osal_report.specs.Status.{has_open_waits}
 
 or_true : (a b : Bool) → (a || b) ≡ true → (a ≡ true) ⊎ (b ≡ true)
 or_true true b e = inl refl
@@ -40,13 +43,13 @@ stalls_waiting part phase.Before e = cc
 stalls_waiting part phase.At e = cc
 stalls_waiting part phase.Ended e = cc
 
--- one that stalls waits in a part that has calls that wait
-waits_stalled : (at : Phase) → waits_well at ≡ true → is_stalled at ≡ true → (waits_in 0 at ≡ true) ⊎ (waits_in 3 at ≡ true)
-waits_stalled (phase.Waiting part) well e = or_true (part == 0) (part == 3) well
-waits_stalled (phase.Leaving part) well e = or_true (part == 0) (part == 3) well
-waits_stalled phase.Before well e = absurd (cc)
-waits_stalled phase.At well e = absurd (cc)
-waits_stalled phase.Ended well e = absurd (cc)
+-- one that stalls waits in a part
+waits_stalled : (at : Phase) → is_stalled at ≡ true → (part : ℕ) × (waits_in part at ≡ true)
+waits_stalled (phase.Waiting part) e = (part, eq-eqb part part refl)
+waits_stalled (phase.Leaving part) e = (part, eq-eqb part part refl)
+waits_stalled phase.Before e = absurd (cc)
+waits_stalled phase.At e = absurd (cc)
+waits_stalled phase.Ended e = absurd (cc)
 
 not_both : (at : Phase) → is_ended at ≡ true → is_stalled at ≡ true → ⊥
 not_both (phase.Waiting part) ended e = cc
@@ -93,35 +96,22 @@ newest_stalls (segment ∷ segments) ends e =
           ]
     ]
 
-module _ {W : Type 0} where
-  some_of_found : (task : ℕ) (waits : List (WaitRecord W)) → is_some (find (is_wait_of task) waits) ≡ true → is_some_of waits ≡ true
-  some_of_found task [] e = cc
-  some_of_found task (wait ∷ waits) e = refl
-
-  found_first : (wait : WaitRecord W) (waits : List (WaitRecord W)) → is_some (find (is_wait_of wait.task) (wait ∷ waits)) ≡ true
-  found_first wait waits = rw (eq-eqb wait.task wait.task refl) refl
-
-  -- the script of a task that has an open wait stalls
-  stalls_open : (part : ℕ) (waits : List (WaitRecord W)) (segments : List Segment) → ((task : ℕ) → is_some (find (is_wait_of task) waits) ≡ waits_in part (newest_script segments task).phase) → is_some_of waits ≡ true → some_stalls segments ≡ true
-  stalls_open part [] segments each e = absurd (cc)
-  stalls_open part (wait ∷ waits) segments each e =
-      stalls_found segments wait.task (stalls_waiting part (newest_script segments wait.task).phase (sym (each wait.task) ∙ found_first wait waits))
+-- where some number passes a test, one does
+passes_there : (test : ℕ → Bool) (numbers : List ℕ) → list_any test numbers ≡ true → (n : ℕ) × (test n ≡ true)
+passes_there test [] e = absurd (cc)
+passes_there test (n ∷ numbers) e =
+    elim (or_true (test n) (list_any test numbers) e) [ inl here ↦ (n, here) | inr there ↦ passes_there test numbers there ]
 
 -- a wait is open exactly where a script stalls
 pub open_where_stalls : (app : Application) (state : MachineState) (segments : List Segment) → IsLinked app state segments → EndsBefore segments → has_open_waits state ≡ some_stalls segments
 open_where_stalls app state segments linked ends =
-    let delays = state.tasks.objects.waits.records in
-    let takes = state.bin_sems.objects.waits.records in
     same_answer (has_open_waits state) (some_stalls segments)
     (λ is_open.
-    ⊎_elim
-    (stalls_open 0 delays segments (λ task. (linked.each task).delay))
-    (stalls_open 3 takes segments (λ task. (linked.each task).take))
-    (or_true (is_some_of delays) (is_some_of takes) is_open))
+    let part = passes_there (λ part. has_waits (part_in part state)) part_numbers is_open in
+    let task = waits_there (part_in part.0 state) part.1 in
+    stalls_found segments task.0 (stalls_waiting part.0 (newest_script segments task.0).phase (sym ((linked.each task.0).waits part.0) ∙ task.1)))
     (λ some.
     let found = newest_stalls segments ends some in
-    let each = linked.each found.0 in
-    ⊎_elim
-    (λ waits. or_left (is_some_of delays) (is_some_of takes) (some_of_found found.0 delays (each.delay ∙ waits)))
-    (λ waits. or_right (is_some_of delays) (is_some_of takes) (some_of_found found.0 takes (each.take ∙ waits)))
-    (waits_stalled (newest_script segments found.0).phase each.part found.1))
+    let part = waits_stalled (newest_script segments found.0).phase found.1 in
+    let waits : has_wait (part_in part.0 state) found.0 ≡ true = (linked.each found.0).waits part.0 ∙ part.1 in
+    any_part (λ n. has_waits (part_in n state)) part.0 (near_part state found.0 part.0 waits) (has_there (part_in part.0 state) found.0 waits))

@@ -10,7 +10,6 @@ use Rattle.osal_base.specs.Reply.{Replied, reply_of, is_waits}
 use Rattle.osal_machine.specs.declared.call.Call.{Call}
 use Rattle.osal_machine.specs.declared.call.Entry.{Entry}
 use Rattle.osal_script.specs.declared.app.ScriptCall.{ScriptCall}
-use Rattle.osal_script.specs.declared.app.ScriptCall.TheVariants as script
 use Rattle.osal_script.specs.declared.app.Line.{Line}
 use Rattle.osal_script.specs.declared.app.Expect.{Expect}
 use Rattle.osal_script.specs.declared.app.Value.{Value}
@@ -19,27 +18,9 @@ use Rattle.osal_script.specs.declared.phase.Phase.{Phase}
 use Rattle.osal_script.specs.declared.phase.Phase.TheVariants as phase
 use Rattle.osal_script.specs.Calls.{register_of}
 use Rattle.osal_script.specs.Script.{Pending, ScriptState, start_of, is_checkpoint, after_entry}
-use Rattle.osal_script.specs.Segments.{Segment}
+use Rattle.osal_runs.specs.Segments.{Segment}
+use Rattle.osal_report.specs.Names.{call_name}
 use Rattle.osal_report.specs.Spelling.{id_text, code_text, answer_text, quoted}
-
--- the name of a call as a line writes it
-abbrev pub call_name : ScriptCall → List ℕ
-call_name (script.TaskCreate register name body stack priority) = codes "task_create"
-call_name script.TaskExit = codes "task_exit"
-call_name (script.TaskDelete id) = codes "task_delete"
-call_name (script.TaskSetPriority id priority) = codes "task_set_priority"
-call_name (script.TaskFind register name) = codes "task_find"
-call_name (script.TaskInfo id) = codes "task_info"
-call_name (script.TaskDelay ms) = codes "task_delay"
-call_name (script.BinSemCreate register name initial) = codes "bin_sem_create"
-call_name (script.BinSemGive id) = codes "bin_sem_give"
-call_name (script.BinSemFlush id) = codes "bin_sem_flush"
-call_name (script.BinSemTake id wait) = codes "bin_sem_take"
-call_name (script.BinSemDelete id) = codes "bin_sem_delete"
-call_name (script.BinSemFind register name) = codes "bin_sem_find"
-call_name (script.BinSemInfo id) = codes "bin_sem_info"
-call_name (script.Hold id) = codes "hold"
-call_name (script.Release id) = codes "release"
 
 -- whether a call gives an identifier: those that set a register do
 abbrev pub gives_id : ScriptCall → Bool

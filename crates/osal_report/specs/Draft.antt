@@ -2,10 +2,11 @@
 use Rattle.std.specs.Prelude.{◌≡◌, ◌==◌, ◌≤◌, ◌+◌, ◌++◌, codes, List, [], ◌∷◌, ℕ, zero, suc, length, Bool, Option, Some, None, if◌then◌else◌}
 use Rattle.osal_machine.specs.declared.call.Entry.{Entry}
 use Rattle.osal_script.specs.Script.{ScriptState, after_entry}
-use Rattle.osal_script.specs.Segments.{Segment, script_in}
+use Rattle.osal_runs.specs.Segments.{Segment, script_in}
 use Rattle.osal_script.specs.declared.app.Line.{Line}
 use Rattle.osal_script.specs.Cursor.{first_line}
-use Rattle.osal_report.specs.Cases.{call_name, case_by, cases_of, cases_text, passed, failed}
+use Rattle.osal_report.specs.Names.{call_name}
+use Rattle.osal_report.specs.Cases.{case_by, cases_of, cases_text, passed, failed}
 use Rattle.osal_report.specs.Report.{is_exit, ends_in_exit, is_stalled, how_by_phase, stall_line, begin_text, end_text}
 
 -- a task, how far its script has come, how many of its cases pass and fail, their lines, and whether its last entry

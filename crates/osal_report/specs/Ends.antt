@@ -3,7 +3,7 @@ use Rattle.std.specs.Prelude.{◌==◌, ◌++◌, List, [], ◌∷◌, ℕ, Bool
 use Rattle.std.specs.List.{list_any}
 use Rattle.osal_machine.specs.declared.call.Entry.{Entry}
 use Rattle.osal_script.specs.App.{Application}
-use Rattle.osal_script.specs.Segments.{Segment, script_in, has_segment, begun}
+use Rattle.osal_runs.specs.Segments.{Segment, script_in, has_segment, begun}
 use Rattle.osal_report.specs.Report.{is_stalled}
 
 -- whether a segment's script has an open wait at its end

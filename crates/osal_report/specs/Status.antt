@@ -1,22 +1,18 @@
 -- The status of a journal.
-use Rattle.std.specs.Prelude.{◌||◌, ◌==◌, ℕ, List, [], ◌∷◌, Bool, true, false, if◌then◌else◌}
+use Rattle.std.specs.Prelude.{◌==◌, ℕ, List, Bool, if◌then◌else◌}
+use Rattle.std.specs.List.{list_any}
 use Rattle.osal_base.specs.Limits.{version1}
 use Rattle.osal_machine.specs.declared.call.Entry.{Entry}
-use Rattle.osal_machine.specs.Step.{MachineState}
+use Rattle.osal_machine.specs.Step.{MachineState, part_in}
+use Rattle.osal_machine.specs.OpenWaits.{part_numbers, has_waits}
 use Rattle.osal_machine.specs.History.{replay}
 use Rattle.osal_script.specs.App.{Application}
-use Rattle.osal_script.specs.Segments.{segments_of}
+use Rattle.osal_runs.specs.Segments.{segments_of}
 use Rattle.osal_report.specs.Report.{all_failed}
-
--- whether a list has elements
-abbrev pub is_some_of : {A : Type 0} → List A → Bool
-is_some_of [] = false
-is_some_of (first ∷ others) = true
 
 -- whether some wait is open
 abbrev pub has_open_waits : MachineState → Bool
-has_open_waits state =
-    is_some_of state.tasks.objects.waits.records || is_some_of state.bin_sems.objects.waits.records
+has_open_waits state = list_any (λ part. has_waits (part_in part state)) part_numbers
 
 -- the status: 3 where a wait is open at the end, else 1 where a case failed, else 0
 abbrev pub status_of : Application → List Entry → ℕ

@@ -1,61 +1,22 @@
 //! The cases of a segment.
 ghost use Rattle.std.specs.Prelude.{◌≡◌, ◌++◌, IfOk, OnOk, [], ◌∷◌, codes, if◌then◌else◌};
 ghost use Rattle.std.specs.Fmt.{decimal};
+ghost use Rattle.osal_report.specs.Names.{call_name as name_of_call};
 ghost use Rattle.osal_report.specs.Spelling.{code_text};
 ghost use Rattle.osal_base.specs.Reply.{reply_of};
-ghost use Rattle.osal_report.specs.Cases.{call_name as name_of_call, gives_id as gives, number_text, is_code as is_code_of, is_value as is_value_of, passes as passes_case, got_value, wanted_value, case_text};
+ghost use Rattle.osal_report.specs.Cases.{gives_id as gives, number_text, is_code as is_code_of, is_value as is_value_of, passes as passes_case, got_value, wanted_value, case_text};
 
+use crate::names::call_name;
 use crate::spelling::{push_answer, push_bytes, push_code, push_decimal, push_id, push_quoted};
 use osal_base::{Answer, OutOfMemory, Reply};
 use osal_script::{Expect, Line, ScriptCall, Value};
 use std::alloc::Global;
 
-/// The name of a call as a line writes it.
-pub(crate) fn call_name(call: &ScriptCall) -> &'static [u8]
-    ensures { result.now ≡ name_of_call call.now }
-{
-    match call {
-        ScriptCall::TaskCreate { .. } => b"task_create",
-        ScriptCall::TaskExit => b"task_exit",
-        ScriptCall::TaskDelete { .. } => b"task_delete",
-        ScriptCall::TaskSetPriority { .. } => b"task_set_priority",
-        ScriptCall::TaskFind { .. } => b"task_find",
-        ScriptCall::TaskInfo { .. } => b"task_info",
-        ScriptCall::TaskDelay { .. } => b"task_delay",
-        ScriptCall::BinSemCreate { .. } => b"bin_sem_create",
-        ScriptCall::BinSemGive { .. } => b"bin_sem_give",
-        ScriptCall::BinSemFlush { .. } => b"bin_sem_flush",
-        ScriptCall::BinSemTake { .. } => b"bin_sem_take",
-        ScriptCall::BinSemDelete { .. } => b"bin_sem_delete",
-        ScriptCall::BinSemFind { .. } => b"bin_sem_find",
-        ScriptCall::BinSemInfo { .. } => b"bin_sem_info",
-        ScriptCall::Hold { .. } => b"hold",
-        ScriptCall::Release { .. } => b"release",
-    }
-}
-
 /// Whether a call gives an identifier.
 fn gives_id(call: &ScriptCall) -> bool
     ensures { result ≡ gives call.now }
 {
-    match call {
-        ScriptCall::TaskCreate { .. }
-        | ScriptCall::TaskFind { .. }
-        | ScriptCall::BinSemCreate { .. }
-        | ScriptCall::BinSemFind { .. } => true,
-        ScriptCall::TaskExit
-        | ScriptCall::TaskDelete { .. }
-        | ScriptCall::TaskSetPriority { .. }
-        | ScriptCall::TaskInfo { .. }
-        | ScriptCall::TaskDelay { .. }
-        | ScriptCall::BinSemGive { .. }
-        | ScriptCall::BinSemFlush { .. }
-        | ScriptCall::BinSemTake { .. }
-        | ScriptCall::BinSemDelete { .. }
-        | ScriptCall::BinSemInfo { .. }
-        | ScriptCall::Hold { .. }
-        | ScriptCall::Release { .. } => false,
-    }
+    call.register().is_some()
 }
 
 fn push_number(

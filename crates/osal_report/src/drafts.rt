@@ -3,7 +3,7 @@ ghost use Rattle.std.specs.Prelude.{◌≡◌, ◌++◌, map, OnOk, IfOk};
 ghost use Rattle.std.specs.Ordering.{nat_cmp};
 ghost use Rattle.std.specs.List.{AllByRecursion};
 ghost use Rattle.std.specs.BTreeMap.{get};
-ghost use Rattle.osal_script.specs.Segments.{begun as begun_by, segments_of};
+ghost use Rattle.osal_runs.specs.Segments.{begun as begun_by, segments_of};
 ghost use Rattle.osal_report.specs.Draft.{draft_of, joined_drafts, newest_place, IsCounted, IsIndex};
 
 use crate::draft::Draft;

@@ -2,7 +2,7 @@
 ghost use Rattle.std.specs.Prelude.{◌≡◌, MatchOption, List, [], ◌∷◌, if◌then◌else◌};
 ghost use Rattle.osal_base.specs.Reply.{reply_of, is_waits as says_waits};
 ghost use Rattle.osal_script.specs.Script.{Pending, is_checkpoint as is_checkpoint_call, is_success as is_success_answer};
-ghost use Rattle.osal_script.specs.Segments.{begun as begun_by};
+ghost use Rattle.osal_runs.specs.Segments.{begun as begun_by};
 ghost use Rattle.osal_report.specs.Cases.{case_of_next, case_in, case_by};
 ghost use Rattle.osal_report.specs.Report.{is_exit as is_exit_call};
 

@@ -6,6 +6,7 @@ mod counts;
 mod draft;
 mod drafts;
 mod entry;
+mod names;
 mod segment;
 mod spelling;
 mod status;

@@ -1,11 +1,11 @@
 //! The lines of a segment around its cases.
 ghost use Rattle.std.specs.Prelude.{◌≡◌, ◌++◌, [], OnOk, codes, option_copied, if◌then◌else◌};
-ghost use Rattle.osal_report.specs.Cases.{call_name as name_of_call};
+ghost use Rattle.osal_report.specs.Names.{call_name as name_of_call};
 ghost use Rattle.osal_report.specs.Report.{segment_name, begin_text, end_text, how_by_phase, is_stalled as is_stalled_phase, stall_line};
 ghost use Rattle.osal_report.specs.Draft.{stall_of_line};
 
-use crate::cases::call_name;
 use crate::counts::{Counts, push_counts};
+use crate::names::call_name;
 use crate::spelling::{push_bytes, push_decimal, push_id};
 use osal_base::OutOfMemory;
 use osal_script::{Line, Phase};

@@ -1,8 +1,8 @@
 //! The exit status of a journal.
 ghost use Rattle.std.specs.Prelude.{◌≡◌, ◌==◌, ◌&&◌, ◌||◌, ◌∷◌, not, if◌then◌else◌};
 ghost use Rattle.osal_script.specs.Script.{start_of, reached, is_ended as is_ended_phase};
-ghost use Rattle.osal_script.specs.Segments.{segments_of};
-ghost use Rattle.osal_script.specs.Runs.{IsPartRun};
+ghost use Rattle.osal_runs.specs.Segments.{segments_of};
+ghost use Rattle.osal_runs.specs.Runs.{IsPartRun};
 ghost use Rattle.osal_report.specs.Cases.{case_by, cases_from, failed};
 ghost use Rattle.osal_report.specs.Report.{is_stalled as is_stalled_phase, all_failed};
 ghost use Rattle.osal_report.specs.Ends.{begins as begins_id, if_of, entries_of, some_stalls};

@@ -3,11 +3,15 @@ ghost use Rattle.std.specs.List.{AllByRecursion};
 ghost use Rattle.osal_script.specs.App.{NamesBetween, ItemNames};
 ghost use Rattle.osal_script.specs.Nesting.{IsNested};
 
+use crate::names::call_name;
 use crate::report;
 use crate::status::end_of_all;
 use osal_base::{Answer, Bytes, Moment, Name, OsalId, OutOfMemory, Reply, Timeout};
 use osal_machine::{Call, Entry, Journal};
-use osal_script::{App, Body, BodyKind, Expect, Item, Line, Literal, Register, ScriptCall, Value};
+use osal_script::{
+    App, BinSemCall, Body, BodyKind, Expect, Item, Line, Literal, QueueCall, Register, ScriptCall,
+    TaskCall, Value, parse,
+};
 use std::alloc::Global;
 use std::process::Abort;
 use std::test::Fail;
@@ -31,14 +35,14 @@ fn create(alloc: Global, number: u32, expect: Option<Expect>) -> Result<Line, Ou
     ensures one { IfOk result (λ line. NamesBetween 0 1 line.call) }
     ensures two { IfOk result (λ line. NamesBetween 0 2 line.call) }
 {
-    let call = ScriptCall::BinSemCreate {
+    let call = BinSemCall::Create {
         register: Register::new(0),
         name: text(alloc, b"s")?,
         value: 1,
     };
     Ok(Line {
         number,
-        call,
+        call: ScriptCall::BinSem(call),
         expect,
     })
 }
@@ -51,10 +55,25 @@ fn take(number: u32, expect: Option<Expect>) -> Line
 {
     Line {
         number,
-        call: ScriptCall::BinSemTake {
+        call: ScriptCall::BinSem(BinSemCall::Take {
             id: Register::new(0),
             wait: Timeout::Check,
-        },
+        }),
+        expect,
+    }
+}
+
+/// `queue_get q 4 check`.
+fn get(number: u32, expect: Option<Expect>) -> Line
+    ensures { NamesBetween 0 1 result.call }
+{
+    Line {
+        number,
+        call: ScriptCall::Queue(QueueCall::Get {
+            id: Register::new(0),
+            n: 4,
+            wait: Timeout::Check,
+        }),
         expect,
     }
 }
@@ -63,7 +82,7 @@ fn take(number: u32, expect: Option<Expect>) -> Line
 fn start(alloc: Global, number: u32, expect: Option<Expect>) -> Result<Line, OutOfMemory>
     ensures { IfOk result (λ line. NamesBetween 0 2 line.call) }
 {
-    let call = ScriptCall::TaskCreate {
+    let call = TaskCall::Create {
         register: Register::new(1),
         name: text(alloc, b"w")?,
         body: 1,
@@ -72,7 +91,7 @@ fn start(alloc: Global, number: u32, expect: Option<Expect>) -> Result<Line, Out
     };
     Ok(Line {
         number,
-        call,
+        call: ScriptCall::Task(call),
         expect,
     })
 }
@@ -295,6 +314,74 @@ fn a_line_shows_what_it_got_and_what_it_wanted(rt: HostRuntime) -> Result<(), Fa
             want
         );
     }
+    Ok(())
+}
+
+/// The bytes of a message, and the line reported.
+const GETS: [(&[u8], &[u8]); 2] = [
+    (
+        b"a\x00",
+        br#"[ PASS] 1 line 4 queue_get OS_SUCCESS "a\x00""#,
+    ),
+    (
+        b"a",
+        br#"[ FAIL] 1 line 4 queue_get OS_SUCCESS "a" expected OS_SUCCESS "a\x00""#,
+    ),
+];
+
+#[test]
+fn a_message_stands_in_quotes(rt: HostRuntime) -> Result<(), Fail> {
+    let alloc = rt.alloc();
+    for (message, want) in GETS {
+        let got = get(4, expects(0, Some(Value::Text(text(alloc, b"a\x00")?))));
+        let items = vec![in alloc; Item::Call(got)]?;
+        let call = Call::QueueGet {
+            id: OsalId::of_raw(0x0002_0001),
+            n: 4,
+            wait: Timeout::Check,
+        };
+        let replied = Reply {
+            answer: SUCCESS,
+            number: 2,
+            bytes: Bytes::copy(alloc, message)?,
+        };
+        assert_eq!(rt; reported(&rt, items, call, replied)?.as_slice(), want);
+    }
+    Ok(())
+}
+
+/// One line for each call.
+const LINES: &[u8] = b"osal-app 1\ntask main\n\
+    task_create $a \"a\" other 0 0\ntask_exit\ntask_delete $a\ntask_set_priority $a 0\n\
+    task_find $a \"a\"\ntask_info $a\ntask_delay 0\n\
+    queue_create $a \"a\" 1 1\nqueue_delete $a\nqueue_put $a \"a\"\nqueue_get $a 1 pend\n\
+    queue_find $a \"a\"\nqueue_info $a\n\
+    count_sem_create $a \"a\" 0\ncount_sem_give $a\ncount_sem_take $a 1\ncount_sem_delete $a\n\
+    count_sem_find $a \"a\"\ncount_sem_info $a\n\
+    bin_sem_create $a \"a\" 0\nbin_sem_give $a\nbin_sem_flush $a\nbin_sem_take $a check\n\
+    bin_sem_delete $a\nbin_sem_find $a \"a\"\nbin_sem_info $a\n\
+    mut_sem_create $a \"a\"\nmut_sem_take $a\nmut_sem_give $a\nmut_sem_delete $a\n\
+    mut_sem_find $a \"a\"\nmut_sem_info $a\n\
+    condvar_create $a \"a\"\ncondvar_lock $a\ncondvar_unlock $a\ncondvar_signal $a\n\
+    condvar_broadcast $a\ncondvar_wait $a 1\ncondvar_delete $a\ncondvar_find $a \"a\"\n\
+    hold $a\nrelease $a\nend\ntask other\nend\n";
+
+#[test]
+fn the_name_of_a_call_begins_its_line(rt: HostRuntime) -> Result<(), Fail> {
+    let Ok(app) = parse(rt.alloc(), LINES) else {
+        panic!(rt; "refused");
+    };
+    let lines = LINES.split(|byte| *byte == b'\n').skip(2);
+    for (item, line) in app.main().items().iter().zip(lines) {
+        match item {
+            Item::Call(read) => {
+                let word = line.split(|byte| *byte == b' ').next().unwrap_or(&[]);
+                assert_eq!(rt; word, call_name(&read.call));
+            }
+            _ => panic!(rt; "no call line"),
+        }
+    }
+    assert_eq!(rt; app.main().items().len(), 42);
     Ok(())
 }
 

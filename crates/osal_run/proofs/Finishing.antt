@@ -6,8 +6,8 @@ use Rattle.osal_base.specs.Sink.{Appends, AppendsPrefix}
 use Rattle.osal_machine.specs.declared.call.Entry.{Entry}
 use Rattle.osal_machine.specs.History.{replay}
 use Rattle.osal_script.specs.App.{Application}
-use Rattle.osal_script.specs.Segments.{segments_of}
-use Rattle.osal_script.specs.Runs.{IsPartRun, IsRun}
+use Rattle.osal_runs.specs.Segments.{segments_of}
+use Rattle.osal_runs.specs.Runs.{IsPartRun, IsRun}
 use Rattle.osal_report.specs.Report.{all_failed, report_text}
 use Rattle.osal_report.specs.Status.{has_open_waits, status_of}
 use Rattle.osal_run.specs.declared.exit.Exit.{Exit}

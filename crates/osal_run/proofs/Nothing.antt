@@ -4,7 +4,7 @@ use Rattle.osal_base.specs.Shelf.{ShelfContent}
 use Rattle.osal_base.specs.Sink.{AppendsPrefix}
 use Rattle.osal_machine.specs.declared.call.Entry.{Entry}
 use Rattle.osal_script.specs.App.{Application}
-use Rattle.osal_script.specs.Runs.{IsPartRun}
+use Rattle.osal_runs.specs.Runs.{IsPartRun}
 use Rattle.osal_run.specs.declared.exit.Exit.TheVariants as exit
 use Rattle.osal_run.specs.Checks.{Check, Refused, Accepted, check_of}
 use Rattle.osal_run.specs.Outcome.{IsCutShort, LeavesFor, WhereBothTold}

@@ -2,7 +2,7 @@ pub use Rattle.osal_base.specs.Causes
 pub use Rattle.osal_base.specs.Shelf
 pub use Rattle.osal_base.specs.Sink
 pub use Rattle.osal_script.specs.Reading
-pub use Rattle.osal_script.specs.Runs
+pub use Rattle.osal_runs.specs.Runs
 pub use Rattle.osal_report.specs.Report
 pub mod Checks
 pub mod Loading

@@ -5,7 +5,7 @@ use Rattle.osal_base.specs.Shelf.{ShelfContent}
 use Rattle.osal_base.specs.Sink.{AppendsPrefix}
 use Rattle.osal_machine.specs.declared.call.Entry.{Entry}
 use Rattle.osal_script.specs.App.{Application}
-use Rattle.osal_script.specs.Runs.{IsPartRun, IsRun}
+use Rattle.osal_runs.specs.Runs.{IsPartRun, IsRun}
 use Rattle.osal_report.specs.Report.{report_text}
 use Rattle.osal_report.specs.Status.{status_of}
 use Rattle.osal_run.specs.declared.exit.Exit.{Exit}

@@ -3,7 +3,7 @@ ghost use Rattle.std.specs.Prelude.{◌≡◌, ◌<◌, ◌≤◌, [], map, OnOk
 ghost use Rattle.osal_base.specs.Causes.{HasCause, Rose, WhereTold};
 ghost use Rattle.osal_base.specs.Sink.{Appends, AppendsPrefix};
 ghost use Rattle.osal_script.specs.Cost.{cost_of};
-ghost use Rattle.osal_script.specs.Runs.{IsPartRun, IsRun};
+ghost use Rattle.osal_runs.specs.Runs.{IsPartRun, IsRun};
 ghost use Rattle.osal_run.specs.Checks.{Accepted, Refused, check_of, cost_limit, refusal_text};
 ghost use Rattle.osal_run.specs.Outcome.{exit_number, Leaves, LeavesFor, LeavesBy, WhereBothTold, IsFinished, IsStatus, ExitFits, Completes};
 ghost use Rattle.osal_run.specs.Loading.{IfTold};

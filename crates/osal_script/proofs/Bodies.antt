@@ -4,10 +4,12 @@ use Rattle.std.proofs.lemmas.List.{get_or-take, get_or-drop, drop-set}
 use Rattle.std.specs.List.{AllByRecursion}
 use Rattle.osal_script.specs.declared.app.ScriptCall.{ScriptCall}
 use Rattle.osal_script.specs.declared.app.ScriptCall.TheVariants as script
+use Rattle.osal_script.specs.declared.tasks.TaskCall.{TaskCall}
+use Rattle.osal_script.specs.declared.tasks.TaskCall.TheVariants as task
 use Rattle.osal_script.specs.declared.app.Item.{Item}
 use Rattle.osal_script.specs.declared.app.Item.TheVariants as item
-use Rattle.osal_script.specs.App.{ScriptBody, NamesBetween, ItemNames, NamesLaterFrom}
-use Rattle.osal_script.specs.Cost.{onto_cost, level_costs, line_cost, first_cost, costs_from}
+use Rattle.osal_script.specs.App.{ScriptBody, TaskNamesBetween, NamesBetween, ItemNames, NamesLaterFrom}
+use Rattle.osal_script.specs.Cost.{onto_cost, level_costs, task_cost, line_cost, first_cost, costs_from}
 use Rattle.osal_script.specs.Saturated.{saturated, onto_saturated, repeated_saturated}
 use Rattle.osal_script.proofs.Lists.{begins_with}
 use Rattle.osal_script.proofs.Costs.{saturated-repeated, saturated_sum}
@@ -20,10 +22,14 @@ saturated-onto cost (level ∷ levels) = ap (λ (x : ℕ). x ∷ map saturated l
 abbrev pub Agree : ℕ → ℕ → (ℕ → ℕ) → (ℕ → ℕ) → Type 0
 Agree number count costs others = (other : ℕ) → number < other → other < count → saturated (costs other) ≡ saturated (others other)
 
-same_line : (number count : ℕ) (costs others : ℕ → ℕ) (made : ScriptCall) → Agree number count costs others → NamesBetween number count made → saturated (line_cost costs made) ≡ saturated (line_cost others made)
-same_line number count costs others (script.TaskCreate register name body stack priority) agree names =
+same_task : (number count : ℕ) (costs others : ℕ → ℕ) (made : TaskCall) → Agree number count costs others → TaskNamesBetween number count made → saturated (2 + task_cost costs made) ≡ saturated (2 + task_cost others made)
+same_task number count costs others (task.Create register name body stack priority) agree names =
     let same : saturated (costs body) ≡ saturated (others body) = agree body names.0 names.1 in
     omega arith
+same_task number count costs others other agree names = refl
+
+same_line : (number count : ℕ) (costs others : ℕ → ℕ) (made : ScriptCall) → Agree number count costs others → NamesBetween number count made → saturated (line_cost costs made) ≡ saturated (line_cost others made)
+same_line number count costs others (script.Task made) agree names = same_task number count costs others made agree names
 same_line number count costs others other agree names = refl
 
 -- then the levels cost the same

@@ -11,7 +11,7 @@ use Rattle.osal_script.specs.declared.fault.FaultKind.{FaultKind}
 use Rattle.osal_script.specs.declared.grammar.CallWord.{CallWord}
 use Rattle.osal_script.specs.declared.grammar.FirstWord.{FirstWord}
 use Rattle.osal_script.specs.declared.grammar.FirstWord.TheVariants as first
-use Rattle.osal_script.specs.App.{ScriptBody, ItemNames, NamesLaterFrom}
+use Rattle.osal_script.specs.App.{ScriptBody, NamesBetween, ItemNames, NamesLaterFrom}
 use Rattle.osal_script.specs.Words.{words_of, is_line_byte}
 use Rattle.osal_script.specs.Values.{is_body_name, number_below}
 use Rattle.osal_script.specs.Vocabulary.{first_word}
@@ -37,7 +37,7 @@ abbrev BodyNames : ℕ → ℕ → Result OpenBody FaultKind → Type 0
 BodyNames number total (Ok body) = AllByRecursion (ItemNames number total) body.items
 BodyNames number total (Err kind) = Unit {0}
 
-join_names : (number total : ℕ) (body : OpenBody) (line : ℕ) (made : Option (ScriptCall × Registers)) (expect : Option (Option Expect)) → AllByRecursion (ItemNames number total) body.items → NamesWell number total made → BodyNames number total (join_line body line made expect)
+join_names : (number total : ℕ) (body : OpenBody) (line : ℕ) (made : Option (ScriptCall × Registers)) (expect : Option (Option Expect)) → AllByRecursion (ItemNames number total) body.items → NamesWell (NamesBetween number total) made → BodyNames number total (join_line body line made expect)
 join_names number total body line None expect all well = tt
 join_names number total body line (Some call) None all well = tt
 join_names number total body line (Some call) (Some expect) all well =

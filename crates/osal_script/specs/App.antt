@@ -4,6 +4,8 @@ use Rattle.std.specs.List.{AllByRecursion}
 use Rattle.osal_script.specs.declared.app.BodyKind.{BodyKind}
 use Rattle.osal_script.specs.declared.app.ScriptCall.{ScriptCall}
 use Rattle.osal_script.specs.declared.app.ScriptCall.TheVariants as script
+use Rattle.osal_script.specs.declared.tasks.TaskCall.{TaskCall}
+use Rattle.osal_script.specs.declared.tasks.TaskCall.TheVariants as task
 use Rattle.osal_script.specs.declared.app.Line.{Line}
 use Rattle.osal_script.specs.declared.app.Item.{Item}
 use Rattle.osal_script.specs.declared.app.Item.TheVariants as item
@@ -52,12 +54,17 @@ levels_of (item.End ∷ items) = [] ∷ levels_of items
 abbrev pub lines_of : ScriptBody → List Line
 lines_of body = first_of_levels (levels_of body.items)
 
--- a line that creates a task names a body behind a number and below another
+-- a creation of a task names a body behind a number and below another
+abbrev pub TaskNamesBetween : ℕ → ℕ → TaskCall → Type 0
+TaskNamesBetween number count (task.Create register name body stack priority) = (number < body) × (body < count)
+TaskNamesBetween number count other = Unit {0}
+
+-- the same of a line
 abbrev pub NamesBetween : ℕ → ℕ → ScriptCall → Type 0
-NamesBetween number count (script.TaskCreate register name body stack priority) = (number < body) × (body < count)
+NamesBetween number count (script.Task call) = TaskNamesBetween number count call
 NamesBetween number count other = Unit {0}
 
--- the same of each call line among some items
+-- the same of each line among some items
 abbrev pub ItemNames : ℕ → ℕ → Item → Type 0
 ItemNames number count (item.Call line) = NamesBetween number count line.call
 ItemNames number count (item.Repeat times) = Unit {0}

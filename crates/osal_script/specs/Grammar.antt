@@ -5,13 +5,27 @@ use Rattle.osal_script.specs.declared.app.ScriptCall.TheVariants as script
 use Rattle.osal_script.specs.declared.grammar.CallWord.{CallWord}
 use Rattle.osal_script.specs.declared.grammar.CallWord.TheVariants as word
 use Rattle.osal_script.specs.Registers.{Registers}
-use Rattle.osal_script.specs.Arguments.{with_id}
+use Rattle.osal_script.specs.Arguments.{as_call, only_id}
 use Rattle.osal_script.specs.Tasks.{task_of_words}
-use Rattle.osal_script.specs.Semaphores.{bin_sem_of_words}
+use Rattle.osal_script.specs.Queues.{queue_of_words}
+use Rattle.osal_script.specs.Counting.{count_sem_of_words}
+use Rattle.osal_script.specs.Binary.{bin_sem_of_words}
+use Rattle.osal_script.specs.Mutexes.{mutex_of_words}
+use Rattle.osal_script.specs.Condvars.{condvar_of_words}
 
 -- the call that a line's arguments make, in the order in which they stand, and the registers with it
 abbrev pub call_of_words : (List ℕ → Option ℕ) → CallWord → List (List ℕ) → Registers → Option (ScriptCall × Registers)
-call_of_words later (word.Task call) words registers = task_of_words later call words registers
-call_of_words later (word.BinSem call) words registers = bin_sem_of_words call words registers
-call_of_words later word.Hold words registers = with_id (λ id. script.Hold id) words registers
-call_of_words later word.Release words registers = with_id (λ id. script.Release id) words registers
+call_of_words later (word.Task call) words registers =
+    as_call (λ made. script.Task made) (task_of_words later call words registers)
+call_of_words later (word.Queue call) words registers =
+    as_call (λ made. script.Queue made) (queue_of_words call words registers)
+call_of_words later (word.CountSem call) words registers =
+    as_call (λ made. script.CountSem made) (count_sem_of_words call words registers)
+call_of_words later (word.BinSem call) words registers =
+    as_call (λ made. script.BinSem made) (bin_sem_of_words call words registers)
+call_of_words later (word.Mutex call) words registers =
+    as_call (λ made. script.Mutex made) (mutex_of_words call words registers)
+call_of_words later (word.Condvar call) words registers =
+    as_call (λ made. script.Condvar made) (condvar_of_words call words registers)
+call_of_words later word.Hold words registers = as_call (λ id. script.Hold id) (only_id words registers)
+call_of_words later word.Release words registers = as_call (λ id. script.Release id) (only_id words registers)

@@ -1,15 +1,17 @@
 -- What a script calls: the lines in their order, each behind a checkpoint, and then the exit.
-use Rattle.std.specs.Prelude.{◌≡◌, ◌⊎◌, ◌%◌, ◌^◌, List, [], ◌∷◌, ℕ, zero, suc, Bool, Option, Some, None, true, false, pos, map, replicate, slice_set, if◌then◌else◌}
-use Rattle.std.specs.Ordering.{int_eq}
+use Rattle.std.specs.Prelude.{◌≡◌, ◌⊎◌, ◌%◌, ◌^◌, List, [], ◌∷◌, ℕ, zero, suc, Bool, Option, Some, None, true, false, map, replicate, slice_set, if◌then◌else◌}
 use Rattle.osal_base.specs.declared.reply.Answer.{Answer}
 use Rattle.osal_base.specs.declared.reply.Answer.TheVariants as answer
 use Rattle.osal_base.specs.Reply.{Replied, reply_of, is_waits}
+pub use Rattle.osal_base.specs.Reply.{is_success}
 use Rattle.osal_machine.specs.declared.call.Call.{Call}
 use Rattle.osal_machine.specs.declared.call.Call.TheVariants as call
 use Rattle.osal_machine.specs.declared.call.Entry.{Entry}
 use Rattle.osal_machine.specs.Call.{said, part_of}
 use Rattle.osal_script.specs.declared.app.ScriptCall.{ScriptCall}
 use Rattle.osal_script.specs.declared.app.ScriptCall.TheVariants as script
+use Rattle.osal_script.specs.declared.tasks.TaskCall.{TaskCall}
+use Rattle.osal_script.specs.declared.tasks.TaskCall.TheVariants as task
 use Rattle.osal_script.specs.declared.app.Line.{Line}
 use Rattle.osal_script.specs.declared.phase.Phase.{Phase}
 use Rattle.osal_script.specs.declared.phase.Phase.TheVariants as phase
@@ -53,22 +55,20 @@ abbrev pub line_call : List Pending → List (List ℕ) → Call
 line_call [] frames = call.TaskExit
 line_call (next ∷ pending) frames = call_of next.line.call (frame_at frames next.frame)
 
--- whether an answer is success
-abbrev pub is_success : Answer → Bool
-is_success (answer.Code code) = int_eq code (pos 0)
-is_success answer.Waits = false
-is_success answer.Go = false
-is_success answer.Deleted = false
-
 -- the registers after a reply; an identifier is the number of a reply, in 32 bits
 abbrev pub registers_after : Option ℕ → Replied → List ℕ → List ℕ
 registers_after None reply registers = registers
 registers_after (Some register) reply registers =
     if is_success reply.answer then slice_set registers register (reply.number % 2 ^ 32) else registers
 
+-- whether a call on a task is the exit
+abbrev pub is_task_exit : TaskCall → Bool
+is_task_exit task.Exit = true
+is_task_exit other = false
+
 -- whether a line is the exit
 abbrev pub is_exit_line : ScriptCall → Bool
-is_exit_line script.TaskExit = true
+is_exit_line (script.Task made) = is_task_exit made
 is_exit_line other = false
 
 -- what comes after a line: nothing after an exit that succeeded, else the next checkpoint

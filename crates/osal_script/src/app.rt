@@ -1,7 +1,14 @@
 //! The parts of an application: call lines with their arguments and expectations.
-ghost use Rattle.std.specs.Prelude.{◌≡◌, ◌<◌};
+ghost use Rattle.std.specs.Prelude.{◌≡◌, ◌<◌, IfOk};
 
-use osal_base::{Bytes, Timeout};
+use crate::binary::BinSemCall;
+use crate::condvars::CondvarCall;
+use crate::counting::CountSemCall;
+use crate::mutexes::MutexCall;
+use crate::queues::QueueCall;
+use crate::tasks::TaskCall;
+use osal_base::{Bytes, OutOfMemory};
+use std::alloc::Global;
 use std::marker::Model;
 
 /// The most registers of a body.
@@ -73,68 +80,26 @@ impl Literal {
     {
         self.bytes.as_slice()
     }
+
+    /// A copy of its bytes.
+    pub(crate) fn copied(&self, alloc: Global) -> Result<Bytes, OutOfMemory>
+        ensures { IfOk result (λ copied. copied.bytes ≡ self.now) }
+    {
+        Bytes::copy(alloc, self.bytes.as_slice())
+    }
 }
 
 /// A call as a line writes it: registers stand where identifiers will.
 #[derive(Debug, Drop)]
 pub enum ScriptCall {
-    TaskCreate {
-        register: Register,
-        name: Literal,
-        /// The number of the body that the task runs: one that is declared later.
-        body: u32,
-        stack: u32,
-        priority: u32,
-    },
-    TaskExit,
-    TaskDelete {
-        id: Register,
-    },
-    TaskSetPriority {
-        id: Register,
-        priority: u32,
-    },
-    TaskFind {
-        register: Register,
-        name: Literal,
-    },
-    TaskInfo {
-        id: Register,
-    },
-    TaskDelay {
-        ms: u32,
-    },
-    BinSemCreate {
-        register: Register,
-        name: Literal,
-        value: u32,
-    },
-    BinSemGive {
-        id: Register,
-    },
-    BinSemFlush {
-        id: Register,
-    },
-    BinSemTake {
-        id: Register,
-        wait: Timeout,
-    },
-    BinSemDelete {
-        id: Register,
-    },
-    BinSemFind {
-        register: Register,
-        name: Literal,
-    },
-    BinSemInfo {
-        id: Register,
-    },
-    Hold {
-        id: Register,
-    },
-    Release {
-        id: Register,
-    },
+    Task(TaskCall),
+    Queue(QueueCall),
+    CountSem(CountSemCall),
+    BinSem(BinSemCall),
+    Mutex(MutexCall),
+    Condvar(CondvarCall),
+    Hold { id: Register },
+    Release { id: Register },
 }
 
 /// The value that a line expects beside its code.

@@ -111,28 +111,26 @@ fn items_cost(costs: &[u64; 64], items: &[Item]) -> u64
 fn line_cost(costs: &[u64; 64], call: &ScriptCall) -> u64
     ensures { result ≡ saturated (cost.line_cost (slice_index costs.now) call.now) }
 {
+    more_cost(costs, call).saturating_add(2)
+}
+
+/// What a line costs beside its checkpoint and its call, where the bodies cost so much.
+fn more_cost(costs: &[u64; 64], call: &ScriptCall) -> u64
+    ensures { result ≡ saturated (cost.more_cost (slice_index costs.now) call.now) }
+{
     match call {
-        ScriptCall::TaskCreate { body, .. } => body_cost(costs, *body).saturating_add(10),
-        ScriptCall::TaskDelay { ms } => 2 + wait_cost(Timeout::Ms(*ms)),
-        ScriptCall::BinSemTake { wait, .. } => 2 + wait_cost(*wait),
-        ScriptCall::TaskExit
-        | ScriptCall::TaskDelete { .. }
-        | ScriptCall::TaskSetPriority { .. }
-        | ScriptCall::TaskFind { .. }
-        | ScriptCall::TaskInfo { .. }
-        | ScriptCall::BinSemCreate { .. }
-        | ScriptCall::BinSemGive { .. }
-        | ScriptCall::BinSemFlush { .. }
-        | ScriptCall::BinSemDelete { .. }
-        | ScriptCall::BinSemFind { .. }
-        | ScriptCall::BinSemInfo { .. }
-        | ScriptCall::Hold { .. }
-        | ScriptCall::Release { .. } => 2,
+        ScriptCall::Task(call) => call.cost(costs),
+        ScriptCall::Queue(call) => call.cost(),
+        ScriptCall::CountSem(call) => call.cost(),
+        ScriptCall::BinSem(call) => call.cost(),
+        ScriptCall::Mutex(call) => call.cost(),
+        ScriptCall::Condvar(call) => call.cost(),
+        ScriptCall::Hold { .. } | ScriptCall::Release { .. } => 0,
     }
 }
 
 /// The cost of the body of that number; one that is not there costs nothing.
-fn body_cost(costs: &[u64; 64], number: u32) -> u64
+pub(crate) fn body_cost(costs: &[u64; 64], number: u32) -> u64
     ensures { result ≡ slice_index costs.now number }
 {
     match costs.get(number as usize) {
@@ -142,7 +140,7 @@ fn body_cost(costs: &[u64; 64], number: u32) -> u64
 }
 
 /// What a line that may wait costs more: its end, and where it has a deadline the advance that reaches it.
-fn wait_cost(wait: Timeout) -> u64
+pub(crate) fn wait_cost(wait: Timeout) -> u64
     ensures value { result ≡ cost.wait_cost wait }
     ensures few { result < 3 }
 {

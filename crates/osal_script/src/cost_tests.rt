@@ -17,7 +17,7 @@ fn app_of(rt: &impl Abort, alloc: Global, lines: &str) -> Result<App, Fail> {
     }
 }
 
-const COSTS: [(&str, u64); 4] = [
+const COSTS: [(&str, u64); 9] = [
     ("task_create $t \"t\" w 0 1\ntask_delay 0", 26),
     (
         "repeat 2\nrepeat 2\nrepeat 2\ntask_create $t \"t\" w 0 1\nend\nend\ntask_delay 0\nend",
@@ -31,10 +31,30 @@ const COSTS: [(&str, u64); 4] = [
         "repeat 100000\nrepeat 100000\nrepeat 100000\nrepeat 100000\ntask_exit\nend\nend\nend\nend",
         u64::MAX,
     ),
+    (
+        "queue_put $q \"a\"\nqueue_put $q fill 63 0\nqueue_put $q fill 64 0\nqueue_put $q fill 8192 0",
+        140,
+    ),
+    (
+        "queue_get $q 63 check\nqueue_get $q 64 pend\nqueue_get $q 128 1\nqueue_get $q 4294967295 check",
+        67_108_880,
+    ),
+    (
+        "count_sem_take $c check\ncount_sem_take $c pend\ncount_sem_take $c 7\ncount_sem_give $c",
+        14,
+    ),
+    (
+        "mut_sem_take $m\nmut_sem_give $m\ncondvar_lock $v\ncondvar_unlock $v",
+        13,
+    ),
+    (
+        "condvar_wait $v check\ncondvar_wait $v pend\ncondvar_wait $v 1\ncondvar_signal $v",
+        14,
+    ),
 ];
 
 #[test]
-fn each_turn_each_task_and_each_wait_costs(rt: HostRuntime) -> Result<(), Fail> {
+fn turns_tasks_waits_and_bytes_cost(rt: HostRuntime) -> Result<(), Fail> {
     for (lines, cost) in COSTS {
         let app = app_of(&rt, rt.alloc(), lines)?;
         assert_eq!(rt; app.cost(), cost, "{lines}");

@@ -6,9 +6,9 @@ ghost use Rattle.osal_script.specs.Script as script;
 ghost use Rattle.osal_script.specs.Script.{start_of, after, after_answer};
 ghost use Rattle.osal_script.specs.Cursor.{moved, first_line, line_number, IsStep};
 
-use crate::line::{call_made, part_made, registers_after};
+use crate::line::{call_made, part_made, set_register};
 use crate::walk::Walk;
-use crate::{Body, Line, Phase, ScriptCall};
+use crate::{Body, Line, Phase, ScriptCall, TaskCall};
 use osal_base::{Answer, OutOfMemory, Reply};
 use osal_machine::{Call, part_of};
 use std::alloc::Global;
@@ -72,94 +72,89 @@ impl<'a> Cursor<'a> {
     pub fn follow(&mut self, call: &Call, reply: &Reply)
         ensures { self.new ≡ after self.old call.now (reply_of reply.now) }
     {
-        *self = self.after(call, reply);
+        match self.phase {
+            Phase::Before => self.phase = phase_after_checkpoint(reply.answer),
+            Phase::At => self.pass_line(part_of(call), reply),
+            Phase::Waiting { part } => {
+                if is_checkpoint(call) {
+                    self.phase = Phase::Leaving { part };
+                } else {
+                    self.pass_answer(reply);
+                }
+            }
+            Phase::Leaving { .. } | Phase::Ended => self.phase = Phase::Ended,
+        }
     }
 
     /// The next call of the script, after the reply to the last one. The first call takes none.
     ///
-    /// A name is copied. Want of memory leaves the cursor where it was.
+    /// A name and a payload are copied. Want of memory leaves the cursor where it was.
     pub fn next(&mut self, alloc: Global, reply: Option<&Reply>) -> Result<Step, OutOfMemory>
         ensures moved { OnOk result (self.new ≡ moved self.old (option_map (λ r. reply_of r.now) reply.entry)) }
         ensures step { IfOk result (λ step. IsStep self.new step) }
         ensures memory { OnErr result (self.new ≡ self.old) }
     {
-        let next = match reply {
-            Some(reply) => self.moved(reply),
-            None => self.with_phase(self.phase),
-        };
+        let mut next = self.copy();
+        if let Some(reply) = reply {
+            next.pass(reply);
+        }
         let step = next.step(alloc)?;
         *self = next;
         Ok(step)
     }
 
-    /// The cursor in another phase.
-    fn with_phase(&self, phase: Phase) -> Cursor<'a>
-        ensures { result ≡ record self.now { phase = phase } }
+    /// Another cursor at the same place.
+    fn copy(&self) -> Cursor<'a>
+        ensures { result ≡ self.now }
     {
         Cursor {
-            phase,
+            phase: self.phase,
             walk: self.walk.copy(),
             registers: self.registers,
         }
     }
 
-    /// The cursor behind a call and its reply.
-    fn after(&self, call: &Call, reply: &Reply) -> Cursor<'a>
-        ensures { result ≡ after self.now call.now (reply_of reply.now) }
+    /// Goes past the call that comes next, unless its task is deleted in a wait, and its reply.
+    fn pass(&mut self, reply: &Reply)
+        ensures { self.new ≡ moved self.old (Some (reply_of reply.now)) }
     {
         match self.phase {
-            Phase::Before => self.with_phase(phase_after_checkpoint(reply.answer)),
-            Phase::At => self.after_line(part_of(call), reply),
-            Phase::Waiting { part } => {
-                if is_checkpoint(call) {
-                    self.with_phase(Phase::Leaving { part })
-                } else {
-                    self.after_answer(reply)
-                }
+            Phase::Before => self.phase = phase_after_checkpoint(reply.answer),
+            Phase::At => {
+                let part = part_made(self.walk.line(), &self.registers);
+                self.pass_line(part, reply);
             }
-            Phase::Leaving { .. } | Phase::Ended => self.with_phase(Phase::Ended),
+            Phase::Waiting { .. } => self.pass_answer(reply),
+            Phase::Leaving { .. } | Phase::Ended => self.phase = Phase::Ended,
         }
     }
 
-    /// The cursor behind the next call, unless its task is deleted in a wait, and its reply.
-    fn moved(&self, reply: &Reply) -> Cursor<'a>
-        ensures { result ≡ moved self.now (Some (reply_of reply.now)) }
-    {
-        match self.phase {
-            Phase::Before => self.with_phase(phase_after_checkpoint(reply.answer)),
-            Phase::At => self.after_line(part_made(self.walk.line(), &self.registers), reply),
-            Phase::Waiting { .. } => self.after_answer(reply),
-            Phase::Leaving { .. } | Phase::Ended => self.with_phase(Phase::Ended),
-        }
-    }
-
-    /// The cursor behind a line's call of that part and its reply: an answer, or that the call waits.
-    fn after_line(&self, part: u32, reply: &Reply) -> Cursor<'a>
-        ensures { result ≡ (if is_waits reply.now.answer
-            then record self.now { phase = phase.Waiting part }
-            else after_answer self.now.pending self.now.frames (reply_of reply.now)) }
+    /// Goes past a line's call of that part and its reply: an answer, or that the call waits.
+    fn pass_line(&mut self, part: u32, reply: &Reply)
+        ensures { self.new ≡ (if is_waits reply.now.answer
+            then record self.old { phase = phase.Waiting part }
+            else after_answer self.old.pending self.old.frames (reply_of reply.now)) }
     {
         match reply.answer {
-            Answer::Waits => self.with_phase(Phase::Waiting { part }),
-            Answer::Code(_) | Answer::Go | Answer::Deleted => self.after_answer(reply),
+            Answer::Waits => self.phase = Phase::Waiting { part },
+            Answer::Code(_) | Answer::Go | Answer::Deleted => self.pass_answer(reply),
         }
     }
 
-    /// The cursor behind a line that was answered, or behind the exit where no line is left.
-    fn after_answer(&self, reply: &Reply) -> Cursor<'a>
-        ensures { result ≡ after_answer self.now.pending self.now.frames (reply_of reply.now) }
+    /// Goes past a line that was answered, or past the exit where no line is left.
+    fn pass_answer(&mut self, reply: &Reply)
+        ensures { self.new ≡ after_answer self.old.pending self.old.frames (reply_of reply.now) }
     {
         let Some(line) = self.walk.line() else {
-            return self.with_phase(Phase::Ended);
+            self.phase = Phase::Ended;
+            return;
         };
-        Cursor {
-            phase: phase_after_line(&line.call, reply.answer),
-            walk: self.walk.behind(),
-            registers: registers_after(&self.registers, &line.call, reply),
-        }
+        self.phase = phase_after_line(&line.call, reply.answer);
+        self.walk = self.walk.behind();
+        set_register(&mut self.registers, &line.call, reply);
     }
 
-    /// The next call with its line. A name is copied.
+    /// The next call with its line. A name and a payload are copied.
     pub fn step(&self, alloc: Global) -> Result<Step, OutOfMemory>
         ensures { IfOk result (λ step. IsStep self.now step) }
     {
@@ -193,7 +188,7 @@ fn phase_after_line(call: &ScriptCall, answer: Answer) -> Phase
     ensures { result ≡ script.phase_after_line call.now answer }
 {
     match (call, answer) {
-        (ScriptCall::TaskExit, Answer::Code(0)) => Phase::Ended,
+        (ScriptCall::Task(TaskCall::Exit), Answer::Code(0)) => Phase::Ended,
         _ => Phase::Before,
     }
 }

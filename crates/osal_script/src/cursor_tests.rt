@@ -29,7 +29,7 @@ fn calls(number: u32, call: ScriptCall) -> Item
 fn delays(number: u32) -> Item
     ensures { (depth : ℕ) → depth_behind depth result ≡ Some depth }
 {
-    calls(number, ScriptCall::TaskDelay { ms: number })
+    calls(number, ScriptCall::Task(TaskCall::Delay { ms: number }))
 }
 
 fn takes(number: u32, wait: Timeout) -> Item
@@ -37,10 +37,10 @@ fn takes(number: u32, wait: Timeout) -> Item
 {
     calls(
         number,
-        ScriptCall::BinSemTake {
+        ScriptCall::BinSem(BinSemCall::Take {
             id: Register::new(0),
             wait,
-        },
+        }),
     )
 }
 
@@ -149,6 +149,52 @@ fn a_wait_ends_before_the_next_line(rt: HostRuntime) -> Result<(), Fail> {
 }
 
 #[test]
+fn each_kind_of_object_waits_in_its_part(rt: HostRuntime) -> Result<(), Fail> {
+    let id = Register::new(0);
+    let wait = Timeout::Pend;
+    let items = vec![in rt.alloc();
+        calls(3, ScriptCall::Queue(QueueCall::Get { id, n: 4, wait })),
+        calls(4, ScriptCall::CountSem(CountSemCall::Take { id, wait })),
+        calls(5, ScriptCall::Mutex(MutexCall::Take { id })),
+        calls(6, ScriptCall::Condvar(CondvarCall::Wait { id, wait })),
+    ]?;
+    let body = task(b"main".as_slice(), items)?;
+    let mut cursor = Cursor::new(&body);
+    let mut answer = None;
+    for (line, wanted) in [(3, 1), (4, 2), (5, 4), (6, 5)] {
+        let _ = next_line(&rt, rt.alloc(), &mut cursor, answer, line)?;
+        match next(&rt, rt.alloc(), &mut cursor, Some(Answer::Waits), line)? {
+            Call::WaitEnd { part } => assert_eq!(rt; part, wanted),
+            _ => panic!(rt; "the wait does not end"),
+        }
+        answer = DONE;
+    }
+    Ok(())
+}
+
+#[test]
+fn a_payload_is_copied_at_each_turn(rt: HostRuntime) -> Result<(), Fail> {
+    let id = Register::new(0);
+    let payload = Literal::new(Bytes::copy(rt.alloc(), b"a\x00".as_slice())?);
+    let items = vec![in rt.alloc();
+        Item::Repeat { count: 2 },
+        calls(4, ScriptCall::Queue(QueueCall::Put { id, payload })),
+        Item::End,
+    ]?;
+    let body = task(b"main".as_slice(), items)?;
+    let mut cursor = Cursor::new(&body);
+    for answer in [None, DONE] {
+        match next_line(&rt, rt.alloc(), &mut cursor, answer, 4)? {
+            Call::QueuePut { payload, .. } => {
+                assert!(rt; payload.as_slice() == b"a\x00".as_slice());
+            }
+            _ => panic!(rt; "another call"),
+        }
+    }
+    Ok(())
+}
+
+#[test]
 fn a_task_that_is_deleted_in_a_wait_gives_it_up(rt: HostRuntime) -> Result<(), Fail> {
     let items = vec![in rt.alloc(); takes(3, Timeout::Ms(5)), delays(4)]?;
     let body = task(b"main".as_slice(), items)?;
@@ -167,8 +213,8 @@ fn a_task_that_is_deleted_in_a_wait_gives_it_up(rt: HostRuntime) -> Result<(), F
 #[test]
 fn an_exit_that_is_refused_goes_on(rt: HostRuntime) -> Result<(), Fail> {
     let items = vec![in rt.alloc();
-        calls(3, ScriptCall::TaskExit),
-        calls(4, ScriptCall::TaskExit),
+        calls(3, ScriptCall::Task(TaskCall::Exit)),
+        calls(4, ScriptCall::Task(TaskCall::Exit)),
     ]?;
     let body = task(b"main".as_slice(), items)?;
     let mut cursor = Cursor::new(&body);
@@ -181,7 +227,7 @@ fn an_exit_that_is_refused_goes_on(rt: HostRuntime) -> Result<(), Fail> {
 fn success_alone_sets_a_register(rt: HostRuntime) -> Result<(), Fail> {
     let name = Literal::new(Bytes::copy(rt.alloc(), b"s".as_slice())?);
     let register = Register::new(0);
-    let finds = calls(3, ScriptCall::BinSemFind { register, name });
+    let finds = calls(3, ScriptCall::BinSem(BinSemCall::Find { register, name }));
     let items = vec![in rt.alloc();
         Item::Repeat { count: 2 },
         finds,

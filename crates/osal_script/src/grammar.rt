@@ -4,10 +4,14 @@ ghost use Rattle.osal_script.specs.Places.{number_in};
 ghost use Rattle.osal_script.specs.Grammar as grammar;
 
 use crate::ScriptCall;
-use crate::arguments::only_register;
+use crate::arguments::only_id;
+use crate::binary::{BinSemWord, bin_sem_of_words};
+use crate::condvars::{CondvarWord, condvar_of_words};
+use crate::counting::{CountSemWord, count_sem_of_words};
 use crate::declarations::Declarations;
+use crate::mutexes::{MutexWord, mutex_of_words};
+use crate::queues::{QueueWord, queue_of_words};
 use crate::registers::Registers;
-use crate::semaphores::{BinSemWord, bin_sem_of_words};
 use crate::tasks::{TaskWord, task_of_words};
 use osal_base::OutOfMemory;
 use std::alloc::Global;
@@ -16,7 +20,11 @@ use std::alloc::Global;
 #[derive(Clone, Copy, Debug, PartialEq, Eq)]
 pub enum CallWord {
     Task(TaskWord),
+    Queue(QueueWord),
+    CountSem(CountSemWord),
     BinSem(BinSemWord),
+    Mutex(MutexWord),
+    Condvar(CondvarWord),
     Hold,
     Release,
 }
@@ -52,11 +60,31 @@ pub fn call_of_words(
         ≡ option_map (λ call. (call, registers.new)) made) }
 {
     match call {
-        CallWord::Task(call) => task_of_words(alloc, call, words, declared, begun, registers),
-        CallWord::BinSem(call) => bin_sem_of_words(alloc, call, words, registers),
-        CallWord::Hold => Ok(only_register(words, registers)?.map(|id| ScriptCall::Hold { id })),
-        CallWord::Release => {
-            Ok(only_register(words, registers)?.map(|id| ScriptCall::Release { id }))
+        CallWord::Task(call) => {
+            let made = task_of_words(alloc, call, words, declared, begun, registers)?;
+            Ok(made.map(|made| ScriptCall::Task(made)))
         }
+        CallWord::Queue(call) => {
+            let made = queue_of_words(alloc, call, words, registers)?;
+            Ok(made.map(|made| ScriptCall::Queue(made)))
+        }
+        CallWord::CountSem(call) => {
+            let made = count_sem_of_words(alloc, call, words, registers)?;
+            Ok(made.map(|made| ScriptCall::CountSem(made)))
+        }
+        CallWord::BinSem(call) => {
+            let made = bin_sem_of_words(alloc, call, words, registers)?;
+            Ok(made.map(|made| ScriptCall::BinSem(made)))
+        }
+        CallWord::Mutex(call) => {
+            let made = mutex_of_words(alloc, call, words, registers)?;
+            Ok(made.map(|made| ScriptCall::Mutex(made)))
+        }
+        CallWord::Condvar(call) => {
+            let made = condvar_of_words(alloc, call, words, registers)?;
+            Ok(made.map(|made| ScriptCall::Condvar(made)))
+        }
+        CallWord::Hold => Ok(only_id(words, registers)?.map(|id| ScriptCall::Hold { id })),
+        CallWord::Release => Ok(only_id(words, registers)?.map(|id| ScriptCall::Release { id })),
     }
 }

@@ -3,10 +3,13 @@
 
 mod app;
 mod arguments;
+mod binary;
 mod blocks;
 mod body;
 mod calls;
+mod condvars;
 mod cost;
+mod counting;
 mod cursor;
 mod declarations;
 mod draft;
@@ -14,13 +17,14 @@ mod expectation;
 mod expected;
 mod fault;
 mod grammar;
-pub mod laws;
 mod line;
+mod mutexes;
+mod payload;
 mod phase;
+mod queues;
 mod reader;
 mod reading;
 mod registers;
-mod semaphores;
 mod strings;
 mod tasks;
 mod values;
@@ -29,11 +33,17 @@ mod walk;
 mod words;
 
 pub use app::{BodyKind, Expect, Item, Line, Literal, REGISTER_LIMIT, Register, ScriptCall, Value};
+pub use binary::BinSemCall;
 pub use body::{App, Body};
+pub use condvars::CondvarCall;
+pub use counting::CountSemCall;
 pub use cursor::{Cursor, Step};
 pub use fault::{AppFault, FaultKind, ParseFault};
+pub use mutexes::MutexCall;
 pub use phase::Phase;
+pub use queues::QueueCall;
 pub use reader::parse;
+pub use tasks::TaskCall;
 
 #[cfg(test)]
 mod cost_tests;

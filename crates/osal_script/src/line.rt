@@ -7,13 +7,13 @@ ghost use Rattle.osal_script.specs.Calls as calls;
 ghost use Rattle.osal_script.specs.Script as script;
 
 use crate::{Line, Register, ScriptCall};
-use osal_base::{Answer, Bytes, OsalId, OutOfMemory, Reply};
+use osal_base::{Answer, OsalId, OutOfMemory, Reply};
 use osal_machine::{Call, part_of};
 use std::alloc::Global;
 
 /// The call of a line under the registers, or the exit where there is no line.
 ///
-/// A name is copied.
+/// A name and a payload are copied.
 pub(crate) fn call_made(
     alloc: Global,
     line: Option<&Line>,
@@ -32,56 +32,12 @@ fn call_of(alloc: Global, call: &ScriptCall, registers: &[u32; 32]) -> Result<Ca
     ensures { IfOk result (λ made. said made ≡ calls.call_of call.now registers.now) }
 {
     match call {
-        ScriptCall::TaskCreate {
-            name,
-            body,
-            stack,
-            priority,
-            ..
-        } => Ok(Call::TaskCreate {
-            name: Bytes::copy(alloc, name.as_slice())?,
-            body: *body,
-            stack: *stack,
-            priority: *priority,
-        }),
-        ScriptCall::TaskExit => Ok(Call::TaskExit),
-        ScriptCall::TaskDelete { id } => Ok(Call::TaskDelete {
-            id: held_in(registers, *id),
-        }),
-        ScriptCall::TaskSetPriority { id, priority } => Ok(Call::TaskSetPriority {
-            id: held_in(registers, *id),
-            priority: *priority,
-        }),
-        ScriptCall::TaskFind { name, .. } => Ok(Call::TaskFind {
-            name: Bytes::copy(alloc, name.as_slice())?,
-        }),
-        ScriptCall::TaskInfo { id } => Ok(Call::TaskInfo {
-            id: held_in(registers, *id),
-        }),
-        ScriptCall::TaskDelay { ms } => Ok(Call::TaskDelay { ms: *ms }),
-        ScriptCall::BinSemCreate { name, value, .. } => Ok(Call::BinSemCreate {
-            name: Bytes::copy(alloc, name.as_slice())?,
-            value: *value,
-        }),
-        ScriptCall::BinSemGive { id } => Ok(Call::BinSemGive {
-            id: held_in(registers, *id),
-        }),
-        ScriptCall::BinSemFlush { id } => Ok(Call::BinSemFlush {
-            id: held_in(registers, *id),
-        }),
-        ScriptCall::BinSemTake { id, wait } => Ok(Call::BinSemTake {
-            id: held_in(registers, *id),
-            wait: *wait,
-        }),
-        ScriptCall::BinSemDelete { id } => Ok(Call::BinSemDelete {
-            id: held_in(registers, *id),
-        }),
-        ScriptCall::BinSemFind { name, .. } => Ok(Call::BinSemFind {
-            name: Bytes::copy(alloc, name.as_slice())?,
-        }),
-        ScriptCall::BinSemInfo { id } => Ok(Call::BinSemInfo {
-            id: held_in(registers, *id),
-        }),
+        ScriptCall::Task(call) => call.to_call(alloc, registers),
+        ScriptCall::Queue(call) => call.to_call(alloc, registers),
+        ScriptCall::CountSem(call) => call.to_call(alloc, registers),
+        ScriptCall::BinSem(call) => call.to_call(alloc, registers),
+        ScriptCall::Mutex(call) => call.to_call(alloc, registers),
+        ScriptCall::Condvar(call) => call.to_call(alloc, registers),
         ScriptCall::Hold { id } => Ok(Call::Hold {
             id: held_in(registers, *id),
         }),
@@ -99,63 +55,46 @@ pub(crate) fn part_made(line: Option<&Line>, registers: &[u32; 32]) -> u32
         return 0;
     };
     match &line.call {
-        ScriptCall::TaskCreate { .. }
-        | ScriptCall::TaskExit
-        | ScriptCall::TaskDelete { .. }
-        | ScriptCall::TaskSetPriority { .. }
-        | ScriptCall::TaskFind { .. }
-        | ScriptCall::TaskInfo { .. }
-        | ScriptCall::TaskDelay { .. } => 0,
-        ScriptCall::BinSemCreate { .. }
-        | ScriptCall::BinSemGive { .. }
-        | ScriptCall::BinSemFlush { .. }
-        | ScriptCall::BinSemTake { .. }
-        | ScriptCall::BinSemDelete { .. }
-        | ScriptCall::BinSemFind { .. }
-        | ScriptCall::BinSemInfo { .. } => 3,
+        ScriptCall::Task(_) => 0,
+        ScriptCall::Queue(_) => 1,
+        ScriptCall::CountSem(_) => 2,
+        ScriptCall::BinSem(_) => 3,
+        ScriptCall::Mutex(_) => 4,
+        ScriptCall::Condvar(_) => 5,
         ScriptCall::Hold { id } | ScriptCall::Release { id } => part_of(&Call::Hold {
             id: held_in(registers, *id),
         }),
     }
 }
 
-/// The register that a call's success sets.
-fn register_of(call: &ScriptCall) -> Option<Register>
-    ensures { result ≡ calls.register_of call.now }
-{
-    match call {
-        ScriptCall::TaskCreate { register, .. }
-        | ScriptCall::TaskFind { register, .. }
-        | ScriptCall::BinSemCreate { register, .. }
-        | ScriptCall::BinSemFind { register, .. } => Some(*register),
-        ScriptCall::TaskExit
-        | ScriptCall::TaskDelete { .. }
-        | ScriptCall::TaskSetPriority { .. }
-        | ScriptCall::TaskInfo { .. }
-        | ScriptCall::TaskDelay { .. }
-        | ScriptCall::BinSemGive { .. }
-        | ScriptCall::BinSemFlush { .. }
-        | ScriptCall::BinSemTake { .. }
-        | ScriptCall::BinSemDelete { .. }
-        | ScriptCall::BinSemInfo { .. }
-        | ScriptCall::Hold { .. }
-        | ScriptCall::Release { .. } => None,
+impl ScriptCall {
+    /// The register that the call's success sets: a call that makes or finds an object has one.
+    pub fn register(&self) -> Option<Register>
+        ensures { result ≡ calls.register_of self.now }
+    {
+        match self {
+            ScriptCall::Task(call) => call.register(),
+            ScriptCall::Queue(call) => call.register(),
+            ScriptCall::CountSem(call) => call.register(),
+            ScriptCall::BinSem(call) => call.register(),
+            ScriptCall::Mutex(call) => call.register(),
+            ScriptCall::Condvar(call) => call.register(),
+            ScriptCall::Hold { .. } | ScriptCall::Release { .. } => None,
+        }
     }
 }
 
-/// The registers after a reply to a line's call.
-pub(crate) fn registers_after(registers: &[u32; 32], call: &ScriptCall, reply: &Reply) -> [u32; 32]
-    ensures { result ≡ script.registers_after (calls.register_of call.now) (reply_of reply.now) registers.now }
+/// Sets the register that a line's success sets, where the reply is success.
+pub(crate) fn set_register(registers: &mut [u32; 32], call: &ScriptCall, reply: &Reply)
+    ensures { registers.new ≡ script.registers_after (calls.register_of call.now) (reply_of reply.now) registers.old }
 {
-    let mut after = *registers;
-    if let (Some(register), Answer::Code(0)) = (register_of(call), reply.answer) {
-        after[register.index()] = (reply.number % (1 << 32)) as u32;
+    if let (Some(register), Answer::Code(0)) = (call.register(), reply.answer) {
+        registers[register.index()] = (reply.number % (1 << 32)) as u32;
     }
-    after
 }
 
 /// The identifier in a register.
-fn held_in(registers: &[u32; 32], register: Register) -> OsalId
+pub(crate) fn held_in(registers: &[u32; 32], register: Register) -> OsalId
     ensures { result ≡ slice_index registers.now register }
 {
     OsalId::of_raw(registers[register.index()])

@@ -34,11 +34,13 @@ fn a_small_application_is_read(rt: HostRuntime) {
     assert_eq!(rt; create.number, 3);
     assert_eq!(rt; take.number, 4);
     match &create.call {
-        ScriptCall::BinSemCreate {
-            register,
-            name,
-            value,
-        } => {
+        ScriptCall::BinSem(
+            BinSemCall::Create {
+                register,
+                name,
+                value,
+            },
+        ) => {
             assert_eq!(rt; register.index(), 0);
             assert!(rt; name.as_slice() == b"s".as_slice());
             assert_eq!(rt; *value, 1);
@@ -46,7 +48,7 @@ fn a_small_application_is_read(rt: HostRuntime) {
         _ => panic!(rt; "another call"),
     }
     match &take.call {
-        ScriptCall::BinSemTake { id, wait } => {
+        ScriptCall::BinSem(BinSemCall::Take { id, wait }) => {
             assert_eq!(rt; id.index(), 0);
             assert_eq!(rt; *wait, Timeout::Check);
         }
@@ -78,7 +80,7 @@ fn escapes_and_registers_are_read(rt: HostRuntime) {
     assert_eq!(rt; items.len(), 3);
     let line = line_at(&rt, items, 0);
     match &line.call {
-        ScriptCall::BinSemCreate { name, value, .. } => {
+        ScriptCall::BinSem(BinSemCall::Create { name, value, .. }) => {
             assert!(rt; name.as_slice() == b"a \n\"\\\x0f".as_slice());
             assert_eq!(rt; *value, 16);
         }
@@ -98,7 +100,11 @@ fn escapes_and_registers_are_read(rt: HostRuntime) {
     }
     for (place, register) in [(1, 1), (2, 0)] {
         match &line_at(&rt, items, place).call {
-            ScriptCall::BinSemTake { id, .. } => assert_eq!(rt; id.index(), register, "at {place}"),
+            ScriptCall::BinSem(BinSemCall::Take { id, .. }) => assert_eq!(rt;
+                id.index(),
+                register,
+                "at {place}"
+            ),
             _ => panic!(rt; "another call"),
         }
     }
@@ -120,7 +126,11 @@ fn every_wait_is_read(rt: HostRuntime) {
     ];
     for (place, wanted) in waits.iter().enumerate() {
         match &line_at(&rt, items, place).call {
-            ScriptCall::BinSemTake { wait, .. } => assert_eq!(rt; *wait, *wanted, "at {place}"),
+            ScriptCall::BinSem(BinSemCall::Take { wait, .. }) => assert_eq!(rt;
+                *wait,
+                *wanted,
+                "at {place}"
+            ),
             _ => panic!(rt; "another call"),
         }
     }
@@ -128,12 +138,14 @@ fn every_wait_is_read(rt: HostRuntime) {
 
 fn is_creation(call: &ScriptCall, stack: u32, priority: u32, body: u32) -> bool {
     match call {
-        ScriptCall::TaskCreate {
-            body: runs,
-            stack: size,
-            priority: rank,
-            ..
-        } => *runs == body && *size == stack && *rank == priority,
+        ScriptCall::Task(
+            TaskCall::Create {
+                body: runs,
+                stack: size,
+                priority: rank,
+                ..
+            },
+        ) => *runs == body && *size == stack && *rank == priority,
         _ => false,
     }
 }
@@ -158,74 +170,253 @@ fn a_body_is_named_by_its_number(rt: HostRuntime) {
     assert!(rt; app.body(2).items().is_empty());
 }
 
-fn letter_of(item: &Item) -> u8 {
-    match item {
-        Item::Call(line) => match &line.call {
-            ScriptCall::TaskCreate { .. } => b'c',
-            ScriptCall::TaskExit => b'x',
-            ScriptCall::TaskDelete { .. } => b'd',
-            ScriptCall::TaskSetPriority { .. } => b'p',
-            ScriptCall::TaskFind { .. } => b'f',
-            ScriptCall::TaskInfo { .. } => b'i',
-            ScriptCall::TaskDelay { .. } => b'w',
-            ScriptCall::BinSemCreate { .. } => b'C',
-            ScriptCall::BinSemGive { .. } => b'G',
-            ScriptCall::BinSemFlush { .. } => b'L',
-            ScriptCall::BinSemTake { .. } => b'T',
-            ScriptCall::BinSemDelete { .. } => b'D',
-            ScriptCall::BinSemFind { .. } => b'F',
-            ScriptCall::BinSemInfo { .. } => b'I',
-            ScriptCall::Hold { .. } => b'h',
-            ScriptCall::Release { .. } => b'r',
-        },
-        Item::Repeat { .. } => b'(',
-        Item::End => b')',
+fn task_letter(call: &TaskCall) -> u8 {
+    match call {
+        TaskCall::Create { .. } => b'C',
+        TaskCall::Exit => b'X',
+        TaskCall::Delete { .. } => b'D',
+        TaskCall::SetPriority { .. } => b'P',
+        TaskCall::Find { .. } => b'F',
+        TaskCall::Info { .. } => b'I',
+        TaskCall::Delay { .. } => b'W',
     }
 }
 
-const ITEMS: [(&str, &str); 6] = [
+fn queue_letter(call: &QueueCall) -> u8 {
+    match call {
+        QueueCall::Create { .. } => b'C',
+        QueueCall::Delete { .. } => b'D',
+        QueueCall::Put { .. } => b'P',
+        QueueCall::Get { .. } => b'G',
+        QueueCall::Find { .. } => b'F',
+        QueueCall::Info { .. } => b'I',
+    }
+}
+
+fn count_sem_letter(call: &CountSemCall) -> u8 {
+    match call {
+        CountSemCall::Create { .. } => b'C',
+        CountSemCall::Give { .. } => b'G',
+        CountSemCall::Take { .. } => b'T',
+        CountSemCall::Delete { .. } => b'D',
+        CountSemCall::Find { .. } => b'F',
+        CountSemCall::Info { .. } => b'I',
+    }
+}
+
+fn bin_sem_letter(call: &BinSemCall) -> u8 {
+    match call {
+        BinSemCall::Create { .. } => b'C',
+        BinSemCall::Give { .. } => b'G',
+        BinSemCall::Flush { .. } => b'L',
+        BinSemCall::Take { .. } => b'T',
+        BinSemCall::Delete { .. } => b'D',
+        BinSemCall::Find { .. } => b'F',
+        BinSemCall::Info { .. } => b'I',
+    }
+}
+
+fn mutex_letter(call: &MutexCall) -> u8 {
+    match call {
+        MutexCall::Create { .. } => b'C',
+        MutexCall::Take { .. } => b'T',
+        MutexCall::Give { .. } => b'G',
+        MutexCall::Delete { .. } => b'D',
+        MutexCall::Find { .. } => b'F',
+        MutexCall::Info { .. } => b'I',
+    }
+}
+
+fn condvar_letter(call: &CondvarCall) -> u8 {
+    match call {
+        CondvarCall::Create { .. } => b'C',
+        CondvarCall::Lock { .. } => b'L',
+        CondvarCall::Unlock { .. } => b'U',
+        CondvarCall::Signal { .. } => b'S',
+        CondvarCall::Broadcast { .. } => b'B',
+        CondvarCall::Wait { .. } => b'W',
+        CondvarCall::Delete { .. } => b'D',
+        CondvarCall::Find { .. } => b'F',
+    }
+}
+
+/// A letter for the kind of object, and one for the call.
+fn letters_of(call: &ScriptCall) -> (u8, u8) {
+    match call {
+        ScriptCall::Task(call) => (b't', task_letter(call)),
+        ScriptCall::Queue(call) => (b'q', queue_letter(call)),
+        ScriptCall::CountSem(call) => (b'c', count_sem_letter(call)),
+        ScriptCall::BinSem(call) => (b'b', bin_sem_letter(call)),
+        ScriptCall::Mutex(call) => (b'm', mutex_letter(call)),
+        ScriptCall::Condvar(call) => (b'v', condvar_letter(call)),
+        ScriptCall::Hold { .. } => (b'o', b'H'),
+        ScriptCall::Release { .. } => (b'o', b'R'),
+    }
+}
+
+fn push_letters(letters: &mut Vec<u8>, item: &Item) -> Result<(), Fail> {
+    match item {
+        Item::Call(line) => {
+            let (kind, call) = letters_of(&line.call);
+            letters.push(kind)?;
+            letters.push(call)?;
+        }
+        Item::Repeat { .. } => letters.push(b'(')?,
+        Item::End => letters.push(b')')?,
+    }
+    Ok(())
+}
+
+const ITEMS: [(&str, &str); 10] = [
     (
         "task_exit\ntask_delete $t\ntask_set_priority $t 7\ntask_find $t \"a\"\ntask_info $t\ntask_delay 20",
-        "xdpfiw",
+        "tXtDtPtFtItW",
+    ),
+    (
+        "queue_create $q \"q\" 50 0x400\nqueue_delete $q\nqueue_put $q \"a\"\nqueue_put $q fill 8192 255\nqueue_get $q 0 check\nqueue_find $q \"q\"\nqueue_info $q",
+        "qCqDqPqPqGqFqI",
+    ),
+    (
+        "count_sem_create $c \"c\" 32767\ncount_sem_give $c\ncount_sem_take $c 0x7fffffff\ncount_sem_delete $c\ncount_sem_find $c \"c\"\ncount_sem_info $c",
+        "cCcGcTcDcFcI",
     ),
     (
         "bin_sem_create $s \"s\" 0\nbin_sem_give $s\nbin_sem_flush $s\nbin_sem_take $s pend\nbin_sem_delete $s\nbin_sem_find $s \"s\"\nbin_sem_info $s\nhold $s\nrelease $s",
-        "CGLTDFIhr",
+        "bCbGbLbTbDbFbIoHoR",
+    ),
+    (
+        "mut_sem_create $m \"m\"\nmut_sem_take $m\nmut_sem_give $m\nmut_sem_delete $m\nmut_sem_find $m \"m\"\nmut_sem_info $m",
+        "mCmTmGmDmFmI",
+    ),
+    (
+        "condvar_create $v \"v\"\ncondvar_lock $v\ncondvar_unlock $v\ncondvar_signal $v\ncondvar_broadcast $v\ncondvar_wait $v 1\ncondvar_delete $v\ncondvar_find $v \"v\"",
+        "vCvLvUvSvBvWvDvF",
     ),
     (
         "hold $a\nrepeat 3\nrelease $a\nrepeat 0x10\nhold $a\nend\nend\nrelease $a",
-        "h(r(h))r",
+        "oH(oR(oH))oR",
     ),
     (
         "repeat 1\nrepeat 1\nrepeat 1\nrepeat 100000\nhold $a\nend\nend\nend\nend",
-        "((((h))))",
+        "((((oH))))",
     ),
-    ("repeat 5\nend\nhold $a\nrepeat 5\n# nothing\nend", "h"),
+    ("repeat 5\nend\nhold $a\nrepeat 5\n# nothing\nend", "oH"),
     (
         "repeat 2\nrepeat 3\nrepeat 4\nend\nend\nhold $a\nrepeat 5\nend\nend",
-        "(h)",
+        "(oH)",
     ),
 ];
 
 #[test]
 fn every_line_and_nested_repeats_are_read(rt: HostRuntime) -> Result<(), Fail> {
     for (lines, wanted) in ITEMS {
-        let mut text = Vec::from_slice(rt.alloc(), b"osal-app 1\ntask main\n".as_slice())?;
-        text.extend_from_slice(lines.as_bytes())?;
-        text.extend_from_slice(b"\nend\n".as_slice())?;
+        let text = with_lines(rt.alloc(), lines)?;
         let Ok(app) = read(&rt, rt.alloc(), text.as_slice()) else {
             panic!(rt; "{lines}");
         };
         let mut letters = Vec::new(rt.alloc());
         for item in app.main().items() {
-            letters.push(letter_of(item))?;
+            push_letters(&mut letters, item)?;
         }
         assert!(rt; letters.as_slice() == wanted.as_bytes(), "{lines}");
     }
     Ok(())
 }
 
-const REFUSED: [(&str, u32, &str); 45] = [
+/// The application with these lines in its body.
+fn with_lines(alloc: Global, lines: &str) -> Result<Vec<u8>, Fail> {
+    let mut text = Vec::from_slice(alloc, b"osal-app 1\ntask main\n".as_slice())?;
+    text.extend_from_slice(lines.as_bytes())?;
+    text.extend_from_slice(b"\nend\n".as_slice())?;
+    Ok(text)
+}
+
+const PUTS: [(&str, &[u8]); 6] = [
+    ("queue_put $q \"\"", b""),
+    (
+        "queue_put $q \"a b\\n\\x00\\\"\\\\\\xfF\"",
+        b"a b\n\x00\"\\\xff",
+    ),
+    ("queue_put $q \"fill\"", b"fill"),
+    ("queue_put $q fill 0 7", b""),
+    ("queue_put $q fill 3 0x41", b"AAA"),
+    ("queue_put $q fill 0x2 255 -> 0", b"\xff\xff"),
+];
+
+fn payload_of<'a>(rt: &impl Abort, line: &'a Line) -> &'a [u8] {
+    match &line.call {
+        ScriptCall::Queue(QueueCall::Put { payload, .. }) => payload.as_slice(),
+        _ => panic!(rt; "no put"),
+    }
+}
+
+#[test]
+fn a_payload_is_a_string_or_one_byte_many_times(rt: HostRuntime) -> Result<(), Fail> {
+    for (line, wanted) in PUTS {
+        let text = with_lines(rt.alloc(), line)?;
+        let Ok(app) = read(&rt, rt.alloc(), text.as_slice()) else {
+            panic!(rt; "{line}");
+        };
+        let put = line_at(&rt, app.main().items(), 0);
+        assert!(rt; payload_of(&rt, put) == wanted, "{line}");
+    }
+    let text = with_lines(rt.alloc(), "queue_put $q fill 8192 1")?;
+    let Ok(app) = read(&rt, rt.alloc(), text.as_slice()) else {
+        panic!(rt; "refused");
+    };
+    let put = line_at(&rt, app.main().items(), 0);
+    assert_eq!(rt; payload_of(&rt, put).len(), 8192);
+    Ok(())
+}
+
+const WRONG_ARGUMENTS: [&str; 28] = [
+    "queue_create $q \"q\" 1",
+    "queue_create $q \"q\" 1 1 1",
+    "queue_create $q \"q\" 1 4294967296",
+    "queue_delete",
+    "queue_put",
+    "queue_put $q",
+    "queue_put $q a",
+    "queue_put $q \"a\" \"b\"",
+    "queue_put $q fill",
+    "queue_put $q fill 1",
+    "queue_put $q fill 1 0 0",
+    "queue_put $q fill 8193 0",
+    "queue_put $q fill 1 256",
+    "queue_put $q fill -1 0",
+    "queue_put $q full 1 0",
+    "queue_put $q \"fill\" 1 0",
+    "queue_get $q 1",
+    "queue_get $q check",
+    "queue_get $q 1 0",
+    "queue_get $q 4294967296 pend",
+    "count_sem_create $c \"c\"",
+    "count_sem_take $c 2147483648",
+    "mut_sem_create $m \"m\" 0",
+    "mut_sem_take $m pend",
+    "condvar_create $v fill 1 65",
+    "condvar_lock $v pend",
+    "condvar_wait $v",
+    "condvar_signal \"v\"",
+];
+
+#[test]
+fn wrong_arguments_are_refused(rt: HostRuntime) -> Result<(), Fail> {
+    for line in WRONG_ARGUMENTS {
+        let text = with_lines(rt.alloc(), line)?;
+        let Err(fault) = read(&rt, rt.alloc(), text.as_slice()) else {
+            panic!(rt; "{line}");
+        };
+        let wanted = AppFault {
+            line: 3,
+            kind: FaultKind::Argument,
+        };
+        assert_eq!(rt; fault, ParseFault::Bad(wanted), "{line}");
+    }
+    Ok(())
+}
+
+const REFUSED: [(&str, u32, &str); 46] = [
     // the worked refusals
     ("osal-app 3", 1, "header"),
     ("osal-app 1\n#\x07", 2, "byte"),
@@ -273,14 +464,11 @@ const REFUSED: [(&str, u32, &str); 45] = [
     ("osal-app 1\nosal-app 1\n", 2, "place"),
     ("osal-app 1\ntask main\nrepeat 1\nend\n", 5, "end"),
     // what is not built yet stands before the place and the form
-    ("osal-app 1\nqueue_put\n", 2, "unbuilt"),
-    (
-        "osal-app 1\ntask main\ncount_sem_take $c pend\n",
-        3,
-        "unbuilt",
-    ),
+    ("osal-app 1\ntimer_set\n", 2, "unbuilt"),
+    ("osal-app 1\ntask main\nread $f 8 pend\n", 3, "unbuilt"),
     // where a line may stand
     ("osal-app 1\nrepeat 1\n", 2, "place"),
+    ("osal-app 1\nqueue_put\n", 2, "place"),
     ("osal-app 1\ntask main\nend\nend\n", 4, "place"),
     ("osal-app 1\ntask main\nend\nend x\n", 4, "place"),
     ("osal-app 1\ntask main\ntask\n", 3, "place"),

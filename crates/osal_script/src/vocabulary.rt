@@ -4,39 +4,17 @@ ghost use Rattle.std.specs.List.{list_any};
 ghost use Rattle.std.specs.Str.{bytes_eq};
 ghost use Rattle.osal_script.specs.Vocabulary as vocabulary;
 
+use crate::binary::bin_sem_word;
+use crate::condvars::condvar_word;
+use crate::counting::count_sem_word;
 use crate::grammar::{CallWord, FirstWord};
-use crate::semaphores::BinSemWord;
-use crate::tasks::TaskWord;
+use crate::mutexes::mutex_word;
+use crate::queues::queue_word;
+use crate::tasks::task_word;
 
 /// The words whose lines are not read yet.
-const UNBUILT: [&str; 70] = [
+const UNBUILT: [&str; 44] = [
     "handler",
-    "queue_create",
-    "queue_delete",
-    "queue_put",
-    "queue_get",
-    "queue_find",
-    "queue_info",
-    "count_sem_create",
-    "count_sem_give",
-    "count_sem_take",
-    "count_sem_delete",
-    "count_sem_find",
-    "count_sem_info",
-    "mut_sem_create",
-    "mut_sem_take",
-    "mut_sem_give",
-    "mut_sem_delete",
-    "mut_sem_find",
-    "mut_sem_info",
-    "condvar_create",
-    "condvar_lock",
-    "condvar_unlock",
-    "condvar_signal",
-    "condvar_broadcast",
-    "condvar_wait",
-    "condvar_delete",
-    "condvar_find",
     "timebase_create",
     "timebase_tick",
     "timebase_free_run",
@@ -114,64 +92,29 @@ fn call_word(text: &[u8]) -> Option<CallWord>
     if text == b"release".as_slice() {
         return Some(CallWord::Release);
     }
-    match task_word(text) {
-        Some(call) => Some(CallWord::Task(call)),
-        None => Some(CallWord::BinSem(bin_sem_word(text)?)),
-    }
+    object_word(text)
 }
 
-fn task_word(text: &[u8]) -> Option<TaskWord>
-    ensures { result ≡ vocabulary.task_word text.now }
+/// The call on some kind of object that a word names.
+fn object_word(text: &[u8]) -> Option<CallWord>
+    ensures { result ≡ vocabulary.object_word text.now }
 {
-    if text == b"task_create".as_slice() {
-        return Some(TaskWord::Create);
+    if let Some(call) = task_word(text) {
+        return Some(CallWord::Task(call));
     }
-    if text == b"task_exit".as_slice() {
-        return Some(TaskWord::Exit);
+    if let Some(call) = queue_word(text) {
+        return Some(CallWord::Queue(call));
     }
-    if text == b"task_delete".as_slice() {
-        return Some(TaskWord::Delete);
+    if let Some(call) = count_sem_word(text) {
+        return Some(CallWord::CountSem(call));
     }
-    if text == b"task_set_priority".as_slice() {
-        return Some(TaskWord::SetPriority);
+    if let Some(call) = bin_sem_word(text) {
+        return Some(CallWord::BinSem(call));
     }
-    if text == b"task_find".as_slice() {
-        return Some(TaskWord::Find);
+    if let Some(call) = mutex_word(text) {
+        return Some(CallWord::Mutex(call));
     }
-    if text == b"task_info".as_slice() {
-        return Some(TaskWord::Info);
-    }
-    if text == b"task_delay".as_slice() {
-        return Some(TaskWord::Delay);
-    }
-    None
-}
-
-fn bin_sem_word(text: &[u8]) -> Option<BinSemWord>
-    ensures { result ≡ vocabulary.bin_sem_word text.now }
-{
-    if text == b"bin_sem_create".as_slice() {
-        return Some(BinSemWord::Create);
-    }
-    if text == b"bin_sem_give".as_slice() {
-        return Some(BinSemWord::Give);
-    }
-    if text == b"bin_sem_flush".as_slice() {
-        return Some(BinSemWord::Flush);
-    }
-    if text == b"bin_sem_take".as_slice() {
-        return Some(BinSemWord::Take);
-    }
-    if text == b"bin_sem_delete".as_slice() {
-        return Some(BinSemWord::Delete);
-    }
-    if text == b"bin_sem_find".as_slice() {
-        return Some(BinSemWord::Find);
-    }
-    if text == b"bin_sem_info".as_slice() {
-        return Some(BinSemWord::Info);
-    }
-    None
+    Some(CallWord::Condvar(condvar_word(text)?))
 }
 
 fn unbuilt_word(text: &[u8]) -> Option<FirstWord>

@@ -4,3 +4,4 @@ pub use Rattle.osal_idtable.specs.Objects
 pub use Rattle.osal_idtable.specs.Waits
 pub use Rattle.osal_idtable.specs.Deadlines
 pub mod Binary
+pub mod Counting

@@ -5,6 +5,8 @@ ghost use Rattle.osal_base.specs.Reply.{replied};
 ghost use Rattle.osal_idtable.specs.Table.{active_at};
 ghost use Rattle.osal_sem.specs.Binary.{no_bin_sems, bin_sem_create_step, bin_sem_take_step, bin_sem_give_step, bin_sem_flush_step, bin_sem_delete_step, bin_sem_find_step, bin_sem_info_step, hold_step, release_step};
 
+mod waiting;
+
 use osal_base::{
     Ack, Bytes, Limits, Moment, Name, ObjType, OsalId, OutOfMemory, Room, Status, Timeout,
 };
@@ -193,10 +195,7 @@ impl BinSemPart {
             Ok(sem) => sem.full,
             Err(_) => return Ok(Ack::refused(Status::ErrInvalidId)),
         };
-        if let Ok(Some(name)) = self.objects.name_of(id) {
-            room.append(name.as_slice());
-        }
-        Ok(Ack::gives(u64::from(full)))
+        Ok(self.objects.info(id, u64::from(full), room))
     }
 
     /// Holds a semaphore, so that it is not removed.

@@ -1,9 +1,10 @@
-//! Semaphores: the calls of OSAL's `osapi-binsem.h`.
+//! Semaphores: the calls of OSAL's `osapi-binsem.h` and `osapi-countsem.h`.
 #![tactic(auto)]
 
 mod binary;
+mod counting;
 #[cfg(test)]
 mod tests;
-mod waiting;
 
 pub use binary::{BinSem, BinSemPart};
+pub use counting::{CountSem, CountSemPart};

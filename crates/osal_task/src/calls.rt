@@ -154,10 +154,7 @@ impl TaskPart {
             Ok(task) => task.sizes(),
             Err(_) => return Ok(Ack::refused(Status::ErrInvalidId)),
         };
-        if let Ok(Some(name)) = self.objects.name_of(id) {
-            room.append(name.as_slice());
-        }
-        Ok(Ack::gives(sizes))
+        Ok(self.objects.info(id, sizes, room))
     }
 
     /// Tells the calling task whether it goes on, and removes it where it was deleted. It takes no memory.

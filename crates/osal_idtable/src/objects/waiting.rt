@@ -1,7 +1,8 @@
 //! How waits begin, are released, and end: while a wait is open it holds what it stands on.
-ghost use Rattle.std.specs.Prelude.{◌≡◌, [], option_copied};
+ghost use Rattle.std.specs.Prelude.{◌≡◌, [], Bool, find, option_copied};
 ghost use Rattle.osal_base.specs.Reply.{replied};
-ghost use Rattle.osal_idtable.specs.Waits.{wait_of, stands_on};
+ghost use Rattle.osal_idtable.specs.Waits.{wait_of, is_of, stands_on};
+ghost use Rattle.osal_idtable.specs.Tests.{Computes};
 ghost use Rattle.osal_idtable.specs.Deadlines.{deadlines_in, least};
 ghost use Rattle.osal_idtable.specs.Waiting.{hold_each, release_each, begin_step, end_wait, abandon_step, release_waits};
 
@@ -34,6 +35,15 @@ impl<T, W> Objects<T, W> {
         ensures { option_copied result ≡ wait_of self.now.waits task }
     {
         self.waits.wait_of(task)
+    }
+
+    /// The oldest open wait that passes a test. It looks at each wait at most.
+    pub fn first_where<F: Fn(&WaitRecord<W>) -> bool>(&self, test: F) -> Option<&WaitRecord<W>>
+        requires { F.IsAlwaysCallable test }
+        ensures { (passes : WaitRecord W → Bool) → Computes F.Fn test passes
+            → option_copied result ≡ find passes self.now.waits.records }
+    {
+        self.waits.first_where(test)
     }
 
     /// The least deadline of an open wait behind a moment, in milliseconds, if there is one. It looks at each wait.
@@ -82,6 +92,22 @@ impl<T, W: Drop> Objects<T, W> {
     pub fn release_on(&mut self, id: OsalId)
         ensures { self.new ≡ release_waits self.old (stands_on id) }
     {
-        self.waits.release_on(id);
+        self.release_where(|wait| wait.stands_on(id));
+    }
+
+    /// Releases the open wait of a task, where it has one: it is ready from now on.
+    pub fn release_of(&mut self, task: OsalId)
+        ensures { self.new ≡ release_waits self.old (is_of task) }
+    {
+        self.release_where(|wait| wait.task == task);
+    }
+
+    /// Releases each open wait that passes a test: it is ready from now on.
+    pub fn release_where<F: Fn(&WaitRecord<W>) -> bool>(&mut self, test: F)
+        requires { F.IsAlwaysCallable test }
+        ensures { (passes : WaitRecord W → Bool) → Computes F.Fn test passes
+            → self.new ≡ release_waits self.old passes }
+    {
+        self.waits.release_where(test);
     }
 }

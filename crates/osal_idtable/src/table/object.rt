@@ -111,7 +111,8 @@ impl<T> Table<T> {
         self.slots.fault_of_taking(id)
     }
 
-    fn object_mut(&mut self, id: OsalId) -> &mut T
+    /// The object that an active identifier names, for writing.
+    pub fn object_mut(&mut self, id: OsalId) -> &mut T
         requires { IsTrue (is_some (active_at self.old id)) }
         ensures* lends { sem 𝓛 (lends_object T.row self.entry id result) }
         ensures value { IfSome (active_at self.old id) (λ a. a.object ≡ result.now) }

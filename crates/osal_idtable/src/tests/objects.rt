@@ -1,5 +1,5 @@
 //! What objects and the waits that stand on them answer, call by call.
-use crate::{Objects, Standing, WaitRecord};
+use crate::{Objects, ReserveFault, Standing, WaitRecord};
 use osal_base::{Ack, Moment, Name, NameFault, ObjType, OsalId, Status, Timeout};
 use std::process::Abort;
 use std::test::Fail;
@@ -106,6 +106,33 @@ fn a_wait_on_nothing_holds_nothing(rt: HostRuntime) -> Result<(), Fail> {
         (Begin(FIRST, None), Ack::waits()),
     ];
     follow(&rt, &mut objects, &rows);
+    Ok(())
+}
+
+#[test]
+fn an_object_is_asked_for_before_it_is_made_and_written_in_its_place(
+    rt: HostRuntime,
+) -> Result<(), Fail> {
+    let mut objects = Objects::new(rt.alloc(), ObjType::BinSem, 2, 2)?;
+    let sem = Name::new(b"s")?;
+    let other = Name::new(b"o")?;
+    assert_eq!(rt; objects.peek(&sem), Ok(OsalId::of_raw(SEM)));
+    follow(
+        &rt,
+        &mut objects,
+        &[(Create(b's'), Ack::gives(0x0004_0001))],
+    );
+    assert_eq!(rt; objects.peek(&sem), Err(ReserveFault::NameTaken));
+    assert_eq!(rt; objects.peek(&other), Ok(OsalId::of_raw(0x0004_0002)));
+    follow(
+        &rt,
+        &mut objects,
+        &[(Create(b't'), Ack::gives(0x0004_0002))],
+    );
+    assert_eq!(rt; objects.peek(&other), Err(ReserveFault::NoFreeIds));
+    assert!(rt; objects.is_active(OsalId::of_raw(SEM)));
+    *objects.object_mut(OsalId::of_raw(SEM)) = 8;
+    assert_eq!(rt; objects.lookup(OsalId::of_raw(SEM)), Ok(&8));
     Ok(())
 }
 

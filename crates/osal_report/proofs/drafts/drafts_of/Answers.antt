@@ -1,6 +1,6 @@
 -- Each entry joins its task's draft and may begin one.
 use Rattle.std.proofs.Common.{ap, ◌++◌, ◌∙◌, map, arith}
-use Rattle.osal_script.specs.Segments.{begun}
+use Rattle.osal_runs.specs.Segments.{begun}
 use Rattle.osal_report.specs.Draft.{draft_of, joined_drafts}
 use Rattle.osal_report.proofs.Drafted.{drafts_more, counted_drafts}
 use Rattle.osal_report.proofs.drafts.drafts_of.Goals as goal

@@ -2,7 +2,7 @@
 use Rattle.std.proofs.Common.{◌≡◌, [], map, take}
 use Rattle.std.specs.Ordering.{nat_cmp}
 use Rattle.std.specs.BTreeMap.{get}
-use Rattle.osal_script.specs.Segments.{segments_from}
+use Rattle.osal_runs.specs.Segments.{segments_from}
 use Rattle.osal_report.specs.Draft.{draft_of, IsIndex}
 use Rattle.osal_report.proofs.drafts.drafts_of.Given as goal
 

@@ -1,6 +1,6 @@
 -- The task that the entry creates has its segment before those of the others.
 use Rattle.std.proofs.Common.{◌==◌, ◌&&◌, ◌||◌, ap, sym, ◌∙◌}
-use Rattle.osal_script.specs.Segments.{segments_of}
+use Rattle.osal_runs.specs.Segments.{segments_of}
 use Rattle.osal_report.specs.Report.{all_failed}
 use Rattle.osal_report.specs.Ends.{some_stalls}
 use Rattle.osal_report.proofs.Chain.{chain_some}

@@ -1,6 +1,6 @@
 -- What is read and what is left make the whole.
 use Rattle.std.proofs.Common.{◌≡◌, ◌==◌, ◌&&◌, ◌||◌, not, drop}
-use Rattle.osal_script.specs.Segments.{segments_of}
+use Rattle.osal_runs.specs.Segments.{segments_of}
 use Rattle.osal_report.specs.Report.{all_failed}
 use Rattle.osal_report.specs.Ends.{some_stalls}
 use Rattle.osal_report.proofs.status.end_of_all.Given as goal

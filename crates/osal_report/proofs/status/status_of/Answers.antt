@@ -1,6 +1,6 @@
 -- The open waits are those of the scripts that stall.
 use Rattle.std.proofs.Common.{◌==◌, ap, ◌∙◌}
-use Rattle.osal_script.specs.Segments.{segments_of}
+use Rattle.osal_runs.specs.Segments.{segments_of}
 use Rattle.osal_report.specs.Report.{all_failed}
 use Rattle.osal_report.specs.Ends.{some_stalls}
 use Rattle.osal_report.proofs.Statuses.{status_by_end}

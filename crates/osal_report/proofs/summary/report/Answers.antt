@@ -1,7 +1,7 @@
 -- The drafts are those of the journal's segments.
 use Rattle.std.proofs.Common.{◌≡◌, ◌++◌, length, map, ap, ◌∙◌, arith}
 use Rattle.std.specs.List.{flat_map}
-use Rattle.osal_script.specs.Segments.{segments_of}
+use Rattle.osal_runs.specs.Segments.{segments_of}
 use Rattle.osal_report.specs.Draft.{draft_of, draft_text}
 use Rattle.osal_report.specs.Report.{total_text}
 use Rattle.osal_report.proofs.Drafted.{counted_drafts}

@@ -1,7 +1,7 @@
 use Rattle.std.proofs.Common.{◌∙◌, refl, ap, subst}
 use Rattle.osal_machine.specs.declared.call.Call.TheVariants.{TaskCreate}
 use Rattle.osal_machine.specs.Step.{MachineState}
-use Rattle.osal_script.specs.Segments.{begun}
+use Rattle.osal_runs.specs.Segments.{begun}
 use Rattle.osal_exec.specs.Running.{with_begun}
 use Rattle.osal_exec.specs.Driving.{MakesEntry, drive_of}
 use Rattle.osal_exec.proofs.Beginning.{first_small, steady_first}

@@ -1,5 +1,5 @@
 use Rattle.std.proofs.Common.{◌+◌, List, Option, sym, ap, subst, ◌∙◌}
-use Rattle.osal_script.specs.Segments.{begun}
+use Rattle.osal_runs.specs.Segments.{begun}
 use Rattle.osal_exec.specs.Running.{Running, with_begun}
 use Rattle.osal_exec.specs.Driving.{MakesEntry, drive_of}
 use Rattle.osal_exec.proofs.Taking.{room_left, small_begun, driven_on}

@@ -1,0 +1,13 @@
+//! Condition variables, each with its lock: the calls of OSAL's `osapi-condvar.h`.
+#![tactic(auto)]
+
+mod condvar;
+mod lock;
+mod part;
+mod signal;
+#[cfg(test)]
+mod tests;
+mod waiting;
+
+pub use condvar::{Aim, Condvar, CondvarWait};
+pub use part::CondvarPart;

@@ -1,0 +1,148 @@
+//! The condition variable part.
+ghost use Rattle.std.specs.Prelude.{◌≡◌, IsOk, IfOk, is_some};
+ghost use Rattle.osal_base.specs.Limits.{Fits};
+ghost use Rattle.osal_base.specs.Reply.{replied};
+ghost use Rattle.osal_idtable.specs.Table.{active_at};
+ghost use Rattle.osal_condvar.specs.Condvars.{no_condvars, condvar_create_step, condvar_delete_step, condvar_find_step, hold_step, release_step};
+
+use crate::{Condvar, CondvarWait};
+use osal_base::{Ack, Bytes, Limits, Moment, Name, ObjType, OsalId, OutOfMemory, Room, Status};
+use osal_idtable::{Objects, status_of_name};
+use std::alloc::Global;
+use std::marker::Model;
+
+/// The condition variables, and the calls that wait.
+///
+/// A wait for a signal is `open -> signalled -> ended`, or `open -> due -> ended`; each end needs the lock free.
+#[derive(Drop)]
+pub struct CondvarPart {
+    pub(crate) objects: Objects<Condvar, CondvarWait>,
+}
+
+impl Model for CondvarPart {
+    ghost use Rattle.osal_condvar.specs.Condvars.{CondvarState};
+    ghost use Rattle.std.specs.Coded.{codes};
+    ghost use Rattle.osal_idtable.specs.Code.{objects_code};
+
+    ghost Value = { CondvarState };
+
+    ghost coded = { Prim.hlevel (codes, objects_code) };
+
+    ghost view = { λ a. record { objects = a.objects } };
+
+    ghost invariant = { λ a. Unit {0} };
+}
+
+impl CondvarPart {
+    /// No condition variables, with the memory for as many as the limits say, and for a wait of each task.
+    pub fn open(alloc: Global, limits: &Limits) -> Result<CondvarPart, OutOfMemory>
+        requires { Fits limits.now }
+        ensures { IfOk result (λ part. part ≡ no_condvars limits.now) }
+    {
+        let objects = Objects::new(alloc, ObjType::Condvar, limits.condvars, limits.tasks)?;
+        Ok(CondvarPart { objects })
+    }
+
+    /// `OS_CondVarCreate`: makes a condition variable, its lock free, and gives its identifier.
+    ///
+    /// It takes no memory; the search for the name and for a free slot costs at most the capacity each.
+    pub fn condvar_create(
+        &mut self,
+        _alloc: Global,
+        _task: OsalId,
+        _now: Moment,
+        name: &Bytes,
+        room: &mut Room,
+    ) -> Result<Ack, OutOfMemory>
+        ensures step { IfOk result (λ ack. (replied ack room.new, self.new)
+            ≡ condvar_create_step self.old name.now.bytes) }
+        ensures memory { IsOk result }
+    {
+        room.clear();
+        let name = match Name::new(name.as_slice()) {
+            Ok(name) => name,
+            Err(fault) => return Ok(Ack::refused(status_of_name(fault))),
+        };
+        Ok(self.objects.create(name, Condvar { owner: None }))
+    }
+
+    /// `OS_CondVarDelete`: removes a condition variable that nobody holds and whose lock is free.
+    ///
+    /// It takes no memory.
+    pub fn condvar_delete(
+        &mut self,
+        _alloc: Global,
+        _task: OsalId,
+        _now: Moment,
+        id: OsalId,
+        room: &mut Room,
+    ) -> Result<Ack, OutOfMemory>
+        ensures step { IfOk result (λ ack. (replied ack room.new, self.new) ≡ condvar_delete_step self.old id) }
+        ensures memory { IsOk result }
+    {
+        room.clear();
+        let locked = match self.objects.lookup(id) {
+            Ok(condvar) => condvar.owner.is_some(),
+            Err(_) => return Ok(Ack::refused(Status::ErrInvalidId)),
+        };
+        if locked || self.objects.is_held(id) {
+            return Ok(Ack::refused(Status::ErrObjectInUse));
+        }
+        Ok(self.objects.delete(id))
+    }
+
+    /// `OS_CondVarGetIdByName`: gives the identifier of a condition variable. It looks at each slot at most.
+    pub fn condvar_find(
+        &mut self,
+        _alloc: Global,
+        _task: OsalId,
+        _now: Moment,
+        name: &Bytes,
+        room: &mut Room,
+    ) -> Result<Ack, OutOfMemory>
+        ensures step { IfOk result (λ ack. (replied ack room.new, self.new) ≡ condvar_find_step self.old name.now.bytes) }
+        ensures memory { IsOk result }
+    {
+        room.clear();
+        Ok(self.objects.find(name.as_slice()))
+    }
+
+    /// Holds a condition variable, so that it is not removed.
+    pub fn hold(
+        &mut self,
+        _alloc: Global,
+        _task: OsalId,
+        _now: Moment,
+        id: OsalId,
+        room: &mut Room,
+    ) -> Result<Ack, OutOfMemory>
+        ensures step { IfOk result (λ ack. (replied ack room.new, self.new) ≡ hold_step self.old id) }
+        ensures memory { IsOk result }
+    {
+        room.clear();
+        Ok(self.objects.hold(id))
+    }
+
+    /// Gives a hold of a condition variable back.
+    pub fn release(
+        &mut self,
+        _alloc: Global,
+        _task: OsalId,
+        _now: Moment,
+        id: OsalId,
+        room: &mut Room,
+    ) -> Result<Ack, OutOfMemory>
+        ensures step { IfOk result (λ ack. (replied ack room.new, self.new) ≡ release_step self.old id) }
+        ensures memory { IsOk result }
+    {
+        room.clear();
+        Ok(self.objects.release(id))
+    }
+
+    /// Whether an identifier is one of an active condition variable.
+    pub fn active(&self, id: OsalId) -> bool
+        ensures { result ≡ is_some (active_at self.now.objects.table id) }
+    {
+        self.objects.is_active(id)
+    }
+}

@@ -1,0 +1,56 @@
+//! The binary semaphore part of the machine.
+ghost use Rattle.std.specs.Prelude.{◌≡◌, false, IsTrue, IsOk, IfOk, OnErr};
+ghost use Rattle.osal_base.specs.Reply.{replied};
+ghost use Rattle.osal_machine.specs.Call.{takes_memory};
+ghost use Rattle.osal_machine.specs.Parts.{BinSems};
+ghost use Rattle.osal_machine.specs.Views.{Alone, is_own, view_step, is_ready_in, is_active_at, goes_at};
+ghost use Rattle.osal_machine.specs.declared.call.Call.TheVariants.{WaitEnd};
+
+use crate::{Call, Part};
+use osal_base::{Ack, Moment, OsalId, OutOfMemory, Room};
+use osal_sem::BinSemPart;
+use std::alloc::Global;
+
+impl Part for BinSemPart {
+    ghost view = { λ part. Alone (BinSems part) };
+
+    fn apply(
+        &mut self,
+        alloc: Global,
+        task: OsalId,
+        now: Moment,
+        call: &Call,
+        room: &mut Room,
+    ) -> Result<Ack, OutOfMemory> {
+        match call {
+            Call::BinSemCreate { name, value } => {
+                self.bin_sem_create(alloc, task, now, name, *value, room)
+            }
+            Call::BinSemGive { id } => self.bin_sem_give(alloc, task, now, *id, room),
+            Call::BinSemFlush { id } => self.bin_sem_flush(alloc, task, now, *id, room),
+            Call::BinSemTake { id, wait } => {
+                self.bin_sem_take(alloc, task, now, *id, *wait, room)
+            }
+            Call::BinSemDelete { id } => self.bin_sem_delete(alloc, task, now, *id, room),
+            Call::BinSemFind { name } => self.bin_sem_find(alloc, task, now, name, room),
+            Call::BinSemInfo { id } => self.bin_sem_info(alloc, task, now, *id, room),
+            Call::Hold { id } => self.hold(alloc, task, now, *id, room),
+            Call::Release { id } => self.release(alloc, task, now, *id, room),
+            Call::WaitEnd { part } => self.wait_end(alloc, task, now, *part, room),
+            Call::WaitAbandon { part } => self.wait_abandon(alloc, task, now, *part, room),
+            _ => unreachable!(),
+        }
+    }
+
+    fn ready(&self, task: OsalId, now: Moment, part: u32) -> bool {
+        self.ready(task, now, part)
+    }
+
+    fn active(&self, id: OsalId) -> bool {
+        self.active(id)
+    }
+
+    fn goes(&self, _task: OsalId) -> bool {
+        false
+    }
+}

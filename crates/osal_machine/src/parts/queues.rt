@@ -1,0 +1,55 @@
+//! The queue part of the machine.
+ghost use Rattle.std.specs.Prelude.{◌≡◌, false, IsTrue, IsOk, IfOk, OnErr};
+ghost use Rattle.osal_base.specs.Reply.{replied};
+ghost use Rattle.osal_machine.specs.Call.{takes_memory};
+ghost use Rattle.osal_machine.specs.Parts.{Queues};
+ghost use Rattle.osal_machine.specs.Views.{Alone, is_own, view_step, is_ready_in, is_active_at, goes_at};
+ghost use Rattle.osal_machine.specs.declared.call.Call.TheVariants.{WaitEnd};
+
+use crate::{Call, Part};
+use osal_base::{Ack, Moment, OsalId, OutOfMemory, Room};
+use osal_queue::QueuePart;
+use std::alloc::Global;
+
+impl Part for QueuePart {
+    ghost view = { λ part. Alone (Queues part) };
+
+    fn apply(
+        &mut self,
+        alloc: Global,
+        task: OsalId,
+        now: Moment,
+        call: &Call,
+        room: &mut Room,
+    ) -> Result<Ack, OutOfMemory> {
+        match call {
+            Call::QueueCreate { name, depth, size } => self.queue_create(
+                alloc, task, now, name, *depth, *size, room,
+            ),
+            Call::QueueDelete { id } => self.queue_delete(alloc, task, now, *id, room),
+            Call::QueuePut { id, payload } => self.queue_put(alloc, task, now, *id, payload, room),
+            Call::QueueGet { id, n, wait } => self.queue_get(
+                alloc, task, now, *id, *n, *wait, room,
+            ),
+            Call::QueueFind { name } => self.queue_find(alloc, task, now, name, room),
+            Call::QueueInfo { id } => self.queue_info(alloc, task, now, *id, room),
+            Call::Hold { id } => self.hold(alloc, task, now, *id, room),
+            Call::Release { id } => self.release(alloc, task, now, *id, room),
+            Call::WaitEnd { part } => self.wait_end(alloc, task, now, *part, room),
+            Call::WaitAbandon { part } => self.wait_abandon(alloc, task, now, *part, room),
+            _ => unreachable!(),
+        }
+    }
+
+    fn ready(&self, task: OsalId, now: Moment, part: u32) -> bool {
+        self.ready(task, now, part)
+    }
+
+    fn active(&self, id: OsalId) -> bool {
+        self.active(id)
+    }
+
+    fn goes(&self, _task: OsalId) -> bool {
+        false
+    }
+}

@@ -1,0 +1,167 @@
+//! The calls of mutexes.
+ghost use Rattle.std.specs.Prelude.{◌≡◌, IsOk, IfOk};
+ghost use Rattle.osal_base.specs.Reply.{replied};
+ghost use Rattle.osal_mutex.specs.Mutexes.{mut_sem_create_step, mut_sem_take_step, mut_sem_give_step, mut_sem_delete_step, mut_sem_find_step, mut_sem_info_step};
+
+use crate::{Lock, Mutex, MutexPart};
+use osal_base::{Ack, Bytes, Moment, Name, OsalId, OutOfMemory, Room, Status, Timeout};
+use osal_idtable::{Standing, WaitRecord, status_of_name};
+use std::alloc::Global;
+
+/// How often the owner of a mutex may have taken it.
+const NESTING_LIMIT: u32 = 32_767;
+
+impl MutexPart {
+    /// `OS_MutSemCreate`: makes a mutex that is free, and gives its identifier.
+    ///
+    /// It takes no memory; the search for the name and for a free slot costs at most the capacity each.
+    pub fn mut_sem_create(
+        &mut self,
+        _alloc: Global,
+        task: OsalId,
+        _now: Moment,
+        name: &Bytes,
+        room: &mut Room,
+    ) -> Result<Ack, OutOfMemory>
+        ensures step { IfOk result (λ ack. (replied ack room.new, self.new)
+            ≡ mut_sem_create_step self.old task name.now.bytes) }
+        ensures memory { IsOk result }
+    {
+        room.clear();
+        let name = match Name::new(name.as_slice()) {
+            Ok(name) => name,
+            Err(fault) => return Ok(Ack::refused(status_of_name(fault))),
+        };
+        let made = Mutex {
+            creator: task,
+            lock: Lock::Free,
+        };
+        Ok(self.objects.create(name, made))
+    }
+
+    /// `OS_MutSemTake`: the task owns a mutex that was free, or owns it once more. It takes no memory.
+    ///
+    /// Where another task owns it the task waits with no deadline, and `wait_end` answers. Meanwhile the mutex
+    /// is held.
+    pub fn mut_sem_take(
+        &mut self,
+        _alloc: Global,
+        task: OsalId,
+        now: Moment,
+        id: OsalId,
+        room: &mut Room,
+    ) -> Result<Ack, OutOfMemory>
+        ensures step { IfOk result (λ ack. (replied ack room.new, self.new)
+            ≡ mut_sem_take_step self.old task now id) }
+        ensures memory { IsOk result }
+    {
+        room.clear();
+        let mutex = match self.objects.lookup(id) {
+            Ok(mutex) => *mutex,
+            Err(_) => return Ok(Ack::refused(Status::ErrInvalidId)),
+        };
+        let depth = match &mutex.lock {
+            Lock::Free => 0,
+            Lock::Owned { task: owner, depth } if *owner == task => *depth,
+            Lock::Owned { .. } => {
+                let wait = WaitRecord::new(task, id, Standing::new(Some(id)), Timeout::Pend, now);
+                return Ok(self.objects.begin(wait));
+            }
+        };
+        if depth >= NESTING_LIMIT {
+            return Ok(Ack::refused(Status::SemFailure));
+        }
+        let lock = Lock::Owned {
+            task,
+            depth: depth + 1,
+        };
+        self.objects.put(id, Mutex { lock, ..mutex });
+        Ok(Ack::success())
+    }
+
+    /// `OS_MutSemGive`: undoes one take by the owner; with the last one the mutex is free. It takes no memory.
+    pub fn mut_sem_give(
+        &mut self,
+        _alloc: Global,
+        task: OsalId,
+        _now: Moment,
+        id: OsalId,
+        room: &mut Room,
+    ) -> Result<Ack, OutOfMemory>
+        ensures step { IfOk result (λ ack. (replied ack room.new, self.new) ≡ mut_sem_give_step self.old task id) }
+        ensures memory { IsOk result }
+    {
+        room.clear();
+        let mutex = match self.objects.lookup(id) {
+            Ok(mutex) => *mutex,
+            Err(_) => return Ok(Ack::refused(Status::ErrInvalidId)),
+        };
+        let depth = match &mutex.lock {
+            Lock::Owned { task: owner, depth } if *owner == task => *depth,
+            _ => return Ok(Ack::refused(Status::SemFailure)),
+        };
+        let lock = Lock::given(task, depth);
+        self.objects.put(id, Mutex { lock, ..mutex });
+        Ok(Ack::success())
+    }
+
+    /// `OS_MutSemDelete`: removes a mutex that nobody holds and no task owns. It takes no memory.
+    pub fn mut_sem_delete(
+        &mut self,
+        _alloc: Global,
+        _task: OsalId,
+        _now: Moment,
+        id: OsalId,
+        room: &mut Room,
+    ) -> Result<Ack, OutOfMemory>
+        ensures step { IfOk result (λ ack. (replied ack room.new, self.new) ≡ mut_sem_delete_step self.old id) }
+        ensures memory { IsOk result }
+    {
+        room.clear();
+        let owned = match self.objects.lookup(id) {
+            Ok(mutex) => mutex.lock.is_owned(),
+            Err(_) => return Ok(Ack::refused(Status::ErrInvalidId)),
+        };
+        if owned {
+            return Ok(Ack::refused(Status::ErrObjectInUse));
+        }
+        Ok(self.objects.delete(id))
+    }
+
+    /// `OS_MutSemGetIdByName`: gives the identifier of a mutex. It looks at each slot at most.
+    pub fn mut_sem_find(
+        &mut self,
+        _alloc: Global,
+        _task: OsalId,
+        _now: Moment,
+        name: &Bytes,
+        room: &mut Room,
+    ) -> Result<Ack, OutOfMemory>
+        ensures step { IfOk result (λ ack. (replied ack room.new, self.new)
+            ≡ mut_sem_find_step self.old name.now.bytes) }
+        ensures memory { IsOk result }
+    {
+        room.clear();
+        Ok(self.objects.find(name.as_slice()))
+    }
+
+    /// `OS_MutSemGetInfo`: gives the task that made a mutex, and the mutex's name.
+    pub fn mut_sem_info(
+        &mut self,
+        _alloc: Global,
+        _task: OsalId,
+        _now: Moment,
+        id: OsalId,
+        room: &mut Room,
+    ) -> Result<Ack, OutOfMemory>
+        ensures step { IfOk result (λ ack. (replied ack room.new, self.new) ≡ mut_sem_info_step self.old id) }
+        ensures memory { IsOk result }
+    {
+        room.clear();
+        let creator = match self.objects.lookup(id) {
+            Ok(mutex) => mutex.creator,
+            Err(_) => return Ok(Ack::refused(Status::ErrInvalidId)),
+        };
+        Ok(self.objects.info(id, u64::from(creator.raw()), room))
+    }
+}

@@ -1,0 +1,12 @@
+//! Mutexes: the calls of OSAL's `osapi-mutex.h`.
+#![tactic(auto)]
+
+mod calls;
+mod mutex;
+mod part;
+#[cfg(test)]
+mod tests;
+mod waiting;
+
+pub use mutex::{Lock, Mutex};
+pub use part::MutexPart;

@@ -1,0 +1,125 @@
+//! The queue part.
+ghost use Rattle.std.specs.Prelude.{◌≡◌, IsOk, IfOk, is_some};
+ghost use Rattle.osal_base.specs.Limits.{Fits};
+ghost use Rattle.osal_base.specs.Reply.{replied};
+ghost use Rattle.osal_idtable.specs.Table.{active_at};
+ghost use Rattle.osal_queue.specs.Queues.{no_queues, queue_find_step, queue_info_step, hold_step, release_step};
+
+use crate::Queue;
+use osal_base::{Ack, Bytes, Limits, Moment, ObjType, OsalId, OutOfMemory, Room, Status};
+use osal_idtable::Objects;
+use std::alloc::Global;
+use std::marker::Model;
+
+/// The queues, and the gets that wait.
+#[derive(Drop)]
+pub struct QueuePart {
+    pub(crate) objects: Objects<Queue, OsalId>,
+}
+
+impl Model for QueuePart {
+    ghost use Rattle.osal_queue.specs.Queues.{QueueState};
+    ghost use Rattle.std.specs.Coded.{codes};
+    ghost use Rattle.osal_idtable.specs.Code.{objects_code};
+
+    ghost Value = { QueueState };
+
+    ghost coded = { Prim.hlevel (codes, objects_code) };
+
+    ghost view = { λ a. record { objects = a.objects } };
+
+    ghost invariant = { λ a. Unit {0} };
+}
+
+impl QueuePart {
+    /// No queues, with the memory to name as many as the limits say, and for a get of each task.
+    pub fn open(alloc: Global, limits: &Limits) -> Result<QueuePart, OutOfMemory>
+        requires { Fits limits.now }
+        ensures { IfOk result (λ part. part ≡ no_queues limits.now) }
+    {
+        let objects = Objects::new(alloc, ObjType::Queue, limits.queues, limits.tasks)?;
+        Ok(QueuePart { objects })
+    }
+
+    /// `OS_QueueGetIdByName`: gives the identifier of a queue. It looks at each slot at most.
+    pub fn queue_find(
+        &mut self,
+        _alloc: Global,
+        _task: OsalId,
+        _now: Moment,
+        name: &Bytes,
+        room: &mut Room,
+    ) -> Result<Ack, OutOfMemory>
+        ensures step { IfOk result (λ ack. (replied ack room.new, self.new)
+            ≡ queue_find_step self.old name.now.bytes) }
+        ensures memory { IsOk result }
+    {
+        room.clear();
+        Ok(self.objects.find(name.as_slice()))
+    }
+
+    /// `OS_QueueGetInfo`: gives the task that made a queue, and the queue's name.
+    pub fn queue_info(
+        &mut self,
+        _alloc: Global,
+        _task: OsalId,
+        _now: Moment,
+        id: OsalId,
+        room: &mut Room,
+    ) -> Result<Ack, OutOfMemory>
+        ensures step { IfOk result (λ ack. (replied ack room.new, self.new)
+            ≡ queue_info_step self.old id) }
+        ensures memory { IsOk result }
+    {
+        room.clear();
+        let creator = match self.objects.lookup(id) {
+            Ok(queue) => queue.creator(),
+            Err(_) => return Ok(Ack::refused(Status::ErrInvalidId)),
+        };
+        if let Ok(Some(name)) = self.objects.name_of(id) {
+            room.append(name.as_slice());
+        }
+        Ok(Ack::gives(u64::from(creator.raw())))
+    }
+
+    /// Holds a queue, so that it is not removed.
+    pub fn hold(
+        &mut self,
+        _alloc: Global,
+        _task: OsalId,
+        _now: Moment,
+        id: OsalId,
+        room: &mut Room,
+    ) -> Result<Ack, OutOfMemory>
+        ensures step { IfOk result (λ ack. (replied ack room.new, self.new)
+            ≡ hold_step self.old id) }
+        ensures memory { IsOk result }
+    {
+        room.clear();
+        Ok(self.objects.hold(id))
+    }
+
+    /// Gives a hold of a queue back.
+    pub fn release(
+        &mut self,
+        _alloc: Global,
+        _task: OsalId,
+        _now: Moment,
+        id: OsalId,
+        room: &mut Room,
+    ) -> Result<Ack, OutOfMemory>
+        ensures step { IfOk result (λ ack. (replied ack room.new, self.new)
+            ≡ release_step self.old id) }
+        ensures memory { IsOk result }
+    {
+        room.clear();
+        Ok(self.objects.release(id))
+    }
+
+    /// Whether an identifier is one of an active queue.
+    pub fn active(&self, id: OsalId) -> bool
+        ensures { result ≡ is_some (active_at self.now.objects.table id) }
+    {
+        self.objects.is_active(id)
+    }
+}

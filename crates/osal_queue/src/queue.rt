@@ -1,0 +1,131 @@
+//! One queue of messages.
+ghost use Rattle.std.specs.Prelude.{◌≡◌, ◌+◌, ◌<◌, ◌≤◌, ◌==◌, ◌++◌, [], length, take, nat_le, IfOk, IsTrue};
+ghost use Rattle.osal_queue.specs.Queue.{may_be_sized, empty_queue, with_message, with_first};
+
+use circular_buffer::HeapCircularBuffer;
+use osal_base::{OsalId, OutOfMemory, Room};
+use std::alloc::Global;
+use std::marker::Model;
+
+/// The most messages that a queue holds (`OS_QUEUE_MAX_DEPTH`).
+const DEPTH_LIMIT: u32 = 50;
+
+/// The most bytes of a queue's message.
+const SIZE_LIMIT: u32 = 1024;
+
+/// A queue of messages, whose memory is taken once and for all when it is made.
+///
+/// Each message is copied once on its way in and once on its way out, at a cost that does not depend on the depth.
+#[derive(Drop)]
+pub struct Queue {
+    bytes: HeapCircularBuffer<u8>,
+    lengths: HeapCircularBuffer<u16>,
+    depth: u32,
+    size: u32,
+    creator: OsalId,
+}
+
+impl Model for Queue {
+    ghost use Rattle.osal_queue.specs.Queue.{Queue};
+
+    ghost Value = { Queue };
+
+    ghost use Rattle.osal_queue.specs.Stored.{queue_of, IsStored};
+
+    ghost view = { queue_of };
+
+    ghost invariant = { IsStored };
+}
+
+impl Queue {
+    /// Whether a queue may hold so many messages of so many bytes.
+    pub fn may_be_sized(depth: u32, size: u32) -> bool
+        ensures { result ≡ may_be_sized depth size }
+    {
+        1 <= depth && depth <= DEPTH_LIMIT && 1 <= size && size <= SIZE_LIMIT
+    }
+
+    /// A queue without messages, with the memory for as many bytes as it may come to hold.
+    pub fn new(alloc: Global, depth: u32, size: u32, creator: OsalId) -> Result<Queue, OutOfMemory>
+        requires { IsTrue (may_be_sized depth size) }
+        ensures { IfOk result (λ queue. queue ≡ empty_queue depth size creator) }
+    {
+        let bytes = HeapCircularBuffer::with_capacity(alloc, (depth * size) as usize)?;
+        let lengths = HeapCircularBuffer::with_capacity(alloc, depth as usize)?;
+        Ok(Queue {
+            bytes,
+            lengths,
+            depth,
+            size,
+            creator,
+        })
+    }
+
+    /// The most messages that it holds.
+    pub fn depth(&self) -> u32
+        ensures { result ≡ self.now.depth }
+    {
+        self.depth
+    }
+
+    /// The most bytes of a message.
+    pub fn size(&self) -> u32
+        ensures { result ≡ self.now.size }
+    {
+        self.size
+    }
+
+    /// The task that made it.
+    pub fn creator(&self) -> OsalId
+        ensures { result ≡ self.now.creator }
+    {
+        self.creator
+    }
+
+    /// Whether it holds no message.
+    pub fn is_empty(&self) -> bool
+        ensures { result ≡ (length self.now.messages == 0) }
+    {
+        self.lengths.is_empty()
+    }
+
+    /// Whether it holds as many messages as it may.
+    pub fn is_full(&self) -> bool
+        ensures { result ≡ nat_le self.now.depth (length self.now.messages) }
+    {
+        self.depth as usize <= self.lengths.len()
+    }
+
+    /// Puts a message behind the others. It takes no memory.
+    pub fn push(&mut self, message: &[u8])
+        requires fits { length message.now ≤ self.old.size }
+        requires room { length self.old.messages < self.old.depth }
+        ensures { self.new ≡ with_message self.old message.now }
+    {
+        self.bytes.fill_from_slice(message);
+        self.lengths.push_back(message.len() as u16);
+    }
+
+    /// Moves the oldest message into a clear room. It takes no memory.
+    pub fn pop(&mut self, room: &mut Room)
+        requires some { 0 < length self.old.messages }
+        requires clear { room.old ≡ [] }
+        ensures { self.old ≡ with_first room.new self.new }
+    {
+        let length = usize::from(self.lengths.pop_front().unwrap());
+        append_front(room, &self.bytes, length);
+        self.bytes.truncate_front(self.bytes.len() - length);
+    }
+}
+
+// Appends the first bytes of a ring, which may lie in two runs.
+fn append_front(room: &mut Room, bytes: &HeapCircularBuffer<u8>, count: usize)
+    requires there { count ≤ length bytes.now.items }
+    requires room { length room.old + count ≤ 1024 }
+    ensures { room.new ≡ room.old ++ take count bytes.now.items }
+{
+    let (front, back) = bytes.as_slices();
+    let in_front = count.min(front.len());
+    room.append(&front[..in_front]);
+    room.append(&back[..count - in_front]);
+}

@@ -1,0 +1,96 @@
+-- The segments with one more entry.
+use Rattle.std.proofs.Common.{◌≡◌, ◌||◌, ◌++◌, ℕ, Bool, true, false, cond, List, [], ◌∷◌, inl, inr, refl, sym, ap, ◌∙◌, arith}
+use Rattle.std.proofs.lemmas.Bool.{cond_both, cases_Bool, false≢true, or_parts}
+use Rattle.std.proofs.lemmas.Bool.Decides.{nat_tests}
+use Rattle.std.proofs.lemmas.List.Folds.{list_any-append}
+use Rattle.osal_machine.specs.declared.call.Entry.{Entry}
+use Rattle.osal_script.specs.Script.{ScriptState, start_of, reached, Follow, IsNext, after_entry}
+use Rattle.osal_runs.specs.Segments.{Segment, script_in, is_of, has_segment, joined}
+use Rattle.osal_runs.specs.Linked.{no_script, newest_script}
+
+-- how far a script has come after one more entry
+pub reached_push : (state : ScriptState) (entries : List Entry) (entry : Entry) → reached state (entries ++ entry ∷ []) ≡ after_entry (reached state entries) entry
+reached_push state [] entry = refl
+reached_push state (first ∷ entries) entry = reached_push (after_entry state first) entries entry
+
+-- one more call that may come next
+pub follow_push : (state : ScriptState) (entries : List Entry) (entry : Entry) → Follow state entries → IsNext (reached state entries) entry → Follow state (entries ++ entry ∷ [])
+follow_push state [] entry follows next = (next, tt)
+follow_push state (first ∷ entries) entry follows next = (follows.0, follow_push (after_entry state first) entries entry follows.1 next)
+
+-- the last of some calls came next, and the others before it
+pub follow_front : (state : ScriptState) (entries : List Entry) (entry : Entry) → Follow state (entries ++ entry ∷ []) → Follow state entries × IsNext (reached state entries) entry
+follow_front state [] entry follows = (tt, follows.0)
+follow_front state (first ∷ entries) entry follows =
+    let rest = follow_front (after_entry state first) entries entry follows.1 in ((follows.0, rest.0), rest.1)
+
+-- an entry begins no segment by itself where it joins one
+pub has_joined : (segments : List Segment) (entry : Entry) (id : ℕ) → has_segment (joined segments entry) id ≡ has_segment segments id
+has_joined [] entry id = refl
+has_joined (segment ∷ segments) entry id =
+    cond_both (has_segment segments entry.task) _ _ (λ (list : List Segment). has_segment list id ≡ has_segment (segment ∷ segments) id)
+    (λ t. ap (λ b. is_of id segment || b) (has_joined segments entry id))
+    (λ f. cond_both (is_of entry.task segment) _ _ (λ (list : List Segment). has_segment list id ≡ has_segment (segment ∷ segments) id) (λ t. refl) (λ f. refl))
+
+-- one of two where the second does not hold
+pub first_of_or : (a b : Bool) → (a || b) ≡ true → b ≡ false → a ≡ true
+first_of_or true b is none = refl
+first_of_or false b is none = absurd (false≢true (sym none ∙ is))
+
+-- the newest script of the entry's task has come one entry further
+pub newest_joined : (segments : List Segment) (entry : Entry) → has_segment segments entry.task ≡ true → newest_script (joined segments entry) entry.task ≡ after_entry (newest_script segments entry.task) entry
+newest_joined [] entry is = absurd (false≢true is)
+newest_joined (segment ∷ segments) entry is =
+    elim (cases_Bool (has_segment segments entry.task)) [
+      | inl later ↦ rw (later, has_joined segments entry entry.task, later) (newest_joined segments entry later)
+      | inr last ↦
+          let mine : is_of entry.task segment ≡ true = first_of_or (is_of entry.task segment) (has_segment segments entry.task) is last in
+          rw (last, mine, last, mine) (reached_push (start_of segment.body) segment.entries entry)
+    ]
+
+-- a segment of one identifier is of no other
+other_of : (id other : ℕ) (segment : Segment) → is_of id segment ≡ true → (other ≡ id → ⊥) → is_of other segment ≡ false
+other_of id other segment is ne = grind (arith, nat_tests)
+
+-- the newest script of any other task stays
+pub newest_other : (segments : List Segment) (entry : Entry) (id : ℕ) → (id ≡ entry.task → ⊥) → newest_script (joined segments entry) id ≡ newest_script segments id
+newest_other [] entry id ne = refl
+newest_other (segment ∷ segments) entry id ne =
+    elim (cases_Bool (has_segment segments entry.task)) [
+      | inl later ↦
+          rw (later, has_joined segments entry id)
+          (ap (λ script. cond (has_segment segments id) script (cond (is_of id segment) (script_in segment) no_script)) (newest_other segments entry id ne))
+      | inr last ↦ elim (cases_Bool (is_of entry.task segment)) [
+        | inl mine ↦ rw (last, mine, other_of entry.task id segment mine ne) refl
+        | inr others ↦ rw (last, others) refl
+      ]
+    ]
+
+-- an entry whose task has no segment joins none
+pub joined_none : (segments : List Segment) (entry : Entry) → has_segment segments entry.task ≡ false → joined segments entry ≡ segments
+joined_none [] entry none = refl
+joined_none (segment ∷ segments) entry none =
+    let parts = or_parts (is_of entry.task segment) (has_segment segments entry.task) none in rw (parts.1, parts.0) refl
+
+-- an identifier without a segment has no script
+pub newest_none : (segments : List Segment) (id : ℕ) → has_segment segments id ≡ false → newest_script segments id ≡ no_script
+newest_none [] id none = refl
+newest_none (segment ∷ segments) id none =
+    let parts = or_parts (is_of id segment) (has_segment segments id) none in rw (parts.1, parts.0) refl
+
+-- whether an identifier has a segment among more
+pub has_more : (segments more : List Segment) (id : ℕ) → has_segment (segments ++ more) id ≡ (has_segment segments id || has_segment more id)
+has_more segments more id = list_any-append (is_of id) segments more
+
+swap_last : {A : Type 0} (a b : Bool) (x y z : A) → cond (a || (b || false)) (cond b x y) z ≡ cond b x (cond a y z)
+swap_last true true x y z = refl
+swap_last true false x y z = refl
+swap_last false true x y z = refl
+swap_last false false x y z = refl
+
+-- a segment at the end is the newest of its identifier
+pub newest_push : (segments : List Segment) (new : Segment) (id : ℕ) → newest_script (segments ++ new ∷ []) id ≡ cond (is_of id new) (script_in new) (newest_script segments id)
+newest_push [] new id = refl
+newest_push (segment ∷ segments) new id =
+    rw (has_more segments (new ∷ []) id, newest_push segments new id)
+    (swap_last (has_segment segments id) (is_of id new) (script_in new) (newest_script segments id) (cond (is_of id segment) (script_in segment) no_script))

@@ -1,0 +1,56 @@
+-- What the calls by which a task ends leave of the tasks.
+use Rattle.std.proofs.Common.{◌≡◌, ℕ, true, false, nat_lt, ◌⊎◌, Option, Some, None, is_some, Result, Ok, Err, inl, inr, refl, sym, ap, subst, ◌∙◌, arith}
+use Rattle.std.specs.FinMap as map
+use Rattle.std.proofs.lemmas.Bool.{cond-true, cond-false, cases_Bool, false≢true}
+use Rattle.std.proofs.lemmas.Bool.Decides.{nat_tests}
+use Rattle.osal_base.specs.Reply.{Replied, success, goes_on, deleted}
+use Rattle.osal_idtable.specs.declared.table.IdFault.{IdFault}
+use Rattle.osal_idtable.specs.Table.{Active}
+use Rattle.osal_idtable.specs.Faults.{answered}
+use Rattle.osal_idtable.specs.Steps.{unheld, take_out, remove_step}
+use Rattle.osal_idtable.specs.Objects.{with_table}
+use Rattle.osal_idtable.proofs.WellFormed.{gone_here, gone_there}
+use Rattle.osal_task.specs.declared.part.Task.{Task}
+use Rattle.osal_task.specs.Tasks.{TaskState, task_at, in_tasks, task_exit_step, passed_by}
+
+-- no task that is marked for deletion is held
+abbrev pub AreUnheld : TaskState → Type 0
+AreUnheld tasks = (id : ℕ) (active : Active Task) → task_at tasks id ≡ Some active → active.object.marked ≡ true → active.holds ≡ 0
+
+-- a task is no longer active; the others are as before
+pub record IsWithout (old new : TaskState) (task : ℕ) : Type 0 where
+  pub own : is_some (task_at new task) ≡ false
+  pub others : (other : ℕ) → (other ≡ task → ⊥) → is_some (task_at new other) ≡ is_some (task_at old other)
+
+module _ (tasks : TaskState) (task : ℕ) where
+  -- a task is removed
+  removed_without : IsWithout tasks (record { objects = with_table tasks.objects (record tasks.objects.table { active = map.remove tasks.objects.table.active task }) }) task
+  removed_without = record {
+    own = ap is_some (gone_here tasks.objects.table.active task);
+    others = λ other ne. ap is_some (gone_there tasks.objects.table.active task other ne);
+  }
+
+  -- an exit is refused and leaves the tasks, or removes the task
+  exit_by : (r : Result Task IdFault) → (let stepped : Replied × TaskState = in_tasks (answered (take_out tasks.objects.table task r).0, with_table tasks.objects (take_out tasks.objects.table task r).1) in (stepped.1 ≡ tasks) ⊎ ((stepped.0 ≡ success) × IsWithout tasks stepped.1 task))
+  exit_by (Err fault) = inl refl
+  exit_by (Ok object) = inr (refl, removed_without)
+
+  -- the exit of the calling task
+  pub exit_outcome : ((task_exit_step tasks task).1 ≡ tasks) ⊎ (((task_exit_step tasks task).0 ≡ success) × IsWithout tasks (task_exit_step tasks task).1 task)
+  exit_outcome = exit_by (unheld (task_at tasks task))
+
+  -- a task that nobody holds can be removed
+  removable : (a : Active Task) → a.holds ≡ 0 → unheld (Some a) ≡ Ok a.object
+  removable a none = cond-false (nat_lt 0 a.holds) _ _ (grind (arith, nat_tests))
+
+  -- an active task's checkpoint lets it go on, or removes it
+  pub passed_outcome : (o : Option (Active Task)) → task_at tasks task ≡ o → is_some o ≡ true → AreUnheld tasks → (passed_by tasks task o ≡ (goes_on, tasks)) ⊎ (((passed_by tasks task o).0 ≡ deleted) × IsWithout tasks (passed_by tasks task o).1 task)
+  passed_outcome None is some all = absurd (false≢true some)
+  passed_outcome (Some a) is some all =
+      elim (cases_Bool a.object.marked) [
+        | inr off ↦ inl (cond-false a.object.marked _ _ off)
+        | inl on ↦
+            let gone : remove_step tasks.objects.table task ≡ take_out tasks.objects.table task (Ok a.object) = ap (take_out tasks.objects.table task) (ap unheld is ∙ removable a (all task a is on)) in
+            let stepped : passed_by tasks task (Some a) ≡ (deleted, record { objects = with_table tasks.objects (record tasks.objects.table { active = map.remove tasks.objects.table.active task }) }) = cond-true a.object.marked _ _ on ∙ (λ i. (deleted, record { objects = with_table tasks.objects (gone i).1 })) in
+            inr (ap (λ (p : Replied × TaskState). p.0) stepped, subst (λ (p : Replied × TaskState). IsWithout tasks p.1 task) (sym stepped) removed_without)
+      ]

@@ -1,5 +1,0 @@
-use Rattle.osal_script.proofs.CostLaw.{cost_bounds_entries}
-use Rattle.osal_script.proofs.laws.cost_bounds_entries.Goals as goal
-
-pub returns : goal.returns
-returns c = cost_bounds_entries
