@@ -17,3 +17,5 @@ mod rows;
 mod semaphores;
 #[cfg(test)]
 mod several;
+#[cfg(test)]
+mod timers;

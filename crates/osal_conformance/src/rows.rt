@@ -131,7 +131,7 @@ end
         ),
         (
             "a call that is not built",
-            "osal-app 1\ntask main\ntimebase_create $b \"b\"\nend\n",
+            "osal-app 1\ntask main\nmkfs \"RAM0\" 64\nend\n",
             2,
             "osal-run: line 3: unbuilt\n",
         ),

@@ -19,7 +19,8 @@ use Rattle.osal_machine.proofs.DueCounts.{any_part}
 use Rattle.osal_script.specs.declared.phase.Phase.{Phase}
 use Rattle.osal_script.specs.declared.phase.Phase.TheVariants as phase
 use Rattle.osal_script.specs.Cursor.{call_in}
-use Rattle.osal_script.specs.Script.{Pending, ScriptState, is_checkpoint, is_success, is_exit_line, phase_after_checkpoint, IsCheckpointAnswer, MayCome, after_in, after_answer, is_ended}
+use Rattle.osal_script.specs.App.{ScriptBody}
+use Rattle.osal_script.specs.Script.{Pending, Frames, ScriptState, is_checkpoint, is_success, is_exit_line, phase_after_checkpoint, IsCheckpointAnswer, MayCome, after_in, after_answer, is_ended}
 use Rattle.osal_runs.specs.Waiting.{waits_on_in, waits_on}
 use Rattle.osal_runs.specs.Linked.{IsLinkedAt, is_live, is_leaving}
 use Rattle.osal_runs.proofs.ScriptCalls.{unsaid_checkpoint, unsaid_end}
@@ -94,9 +95,9 @@ module _ (state : MachineState) (task : ℕ) where
   cannot_go phase.Ended still found = refl
 
 -- a line that was answered leads on, and never to a wait that is given up
-answer_calm : (pending : List Pending) (frames : List (List ℕ)) (reply : Replied) → is_leaving (after_answer pending frames reply).phase ≡ false
-answer_calm [] frames reply = refl
-answer_calm (next ∷ pending) frames reply =
+answer_calm : (bodies : List ScriptBody) (pending : List Pending) (frames : Frames) (reply : Replied) → is_leaving (after_answer bodies pending frames reply).phase ≡ false
+answer_calm bodies [] frames reply = refl
+answer_calm bodies (next ∷ pending) frames reply =
     cond_both (is_exit_line next.line.call) _ _ (λ (p : Phase). is_leaving p ≡ false)
     (λ t. cond_both (is_success reply.answer) phase.Ended phase.Before (λ (p : Phase). is_leaving p ≡ false) (λ u. refl) (λ u. refl))
     (λ f. refl)
@@ -112,10 +113,10 @@ checkpoint_calm answer.Deleted = refl
 pub stays_calm : (at : Phase) (script : ScriptState) (made : Call) (reply : Replied) → call_in at script ≡ Some (said made) → is_leaving (after_in at script made reply).phase ≡ false
 stays_calm phase.Before script made reply is = checkpoint_calm reply.answer
 stays_calm phase.At script made reply is =
-    cond_both (is_waits reply.answer) (record script { phase = phase.Waiting (part_of made) }) (after_answer script.pending script.frames reply) (λ (s : ScriptState). is_leaving s.phase ≡ false) (λ t. refl) (λ f. answer_calm script.pending script.frames reply)
+    cond_both (is_waits reply.answer) (record script { phase = phase.Waiting (part_of made) }) (after_answer script.bodies script.pending script.frames reply) (λ (s : ScriptState). is_leaving s.phase ≡ false) (λ t. refl) (λ f. answer_calm script.bodies script.pending script.frames reply)
 stays_calm (phase.Waiting part) script made reply is =
     let same : said made ≡ call.WaitEnd part = cc in
     let none : is_checkpoint made ≡ false = ap is_checkpoint (unsaid_end made part same) in
-    cond_both (is_checkpoint made) (record script { phase = phase.Leaving part }) (after_answer script.pending script.frames reply) (λ (s : ScriptState). is_leaving s.phase ≡ false) (λ t. absurd (false≢true (sym none ∙ t))) (λ f. answer_calm script.pending script.frames reply)
+    cond_both (is_checkpoint made) (record script { phase = phase.Leaving part }) (after_answer script.bodies script.pending script.frames reply) (λ (s : ScriptState). is_leaving s.phase ≡ false) (λ t. absurd (false≢true (sym none ∙ t))) (λ f. answer_calm script.bodies script.pending script.frames reply)
 stays_calm (phase.Leaving part) script made reply is = refl
 stays_calm phase.Ended script made reply is = cc

@@ -14,7 +14,7 @@ use Rattle.osal_machine.specs.Call.{said, text_of}
 use Rattle.osal_machine.specs.Step.{MachineState, opening, step}
 use Rattle.osal_machine.specs.Journal.{Entries}
 use Rattle.osal_machine.specs.History.{replay}
-use Rattle.osal_script.specs.App.{Application, ScriptBody, NamesLater}
+use Rattle.osal_script.specs.App.{Application, ScriptBody, NamesLater, HandlersAreBare}
 use Rattle.osal_script.specs.Cost.{cost_of}
 use Rattle.osal_script.specs.Script.{ScriptState}
 use Rattle.osal_runs.specs.Segments.{script_in, is_of, begun, segments_of}
@@ -93,14 +93,15 @@ module _ (app : Application) (main : ScriptBody) (is : slice_get app.bodies 0 �
       ∙ cond_both (is_of task one.0) (script_in one.0) no_script (λ (s : ScriptState). is_leaving s.phase ≡ false) (λ t. new_calm one.0 one.2.fresh) (λ f. refl)
 
   -- a driver begins with the entry
-  pub steady_first : NamesLater app → (journal : Entries) → journal.entries ≡ [] → cost_of app ≤ journal.spare → (new : Drive) → IsPushed journal new.journal entry → new.state ≡ left → new.runners ≡ with_begun (replicate 64 None) (begun app entry) → IsSteady app new
-  steady_first later journal empty enough new pushed at runners =
+  pub steady_first : NamesLater app → HandlersAreBare app → (journal : Entries) → journal.entries ≡ [] → cost_of app ≤ journal.spare → (new : Drive) → IsPushed journal new.journal entry → new.state ≡ left → new.runners ≡ with_begun (replicate 64 None) (begun app entry) → IsSteady app new
+  steady_first later bare journal empty enough new pushed at runners =
       let alone : new.journal.entries ≡ entry ∷ [] = pushed.entries ∙ ap (λ list. list ++ entry ∷ []) empty in
       let one : length new.journal.entries ≡ 1 = ap length alone in
       let place = pushed.spare in
       record {
         driven = record {
           later = later;
+          bare = bare;
           way = subst (IsUnderWay app) (sym alone) way_first;
           room = omega arith;
           replayed = at ∙ makes.left ∙ ap (λ (r : Replied × MachineState). r.1) step_first ∙ ap (replay version1) (sym alone);

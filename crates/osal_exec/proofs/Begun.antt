@@ -30,15 +30,15 @@ abbrev pub AreNew : MachineState → List Segment → Type 0
 AreNew state segments = (segments ≡ []) ⊎ ((new : Segment) × (segments ≡ new ∷ []) × IsNew state new)
 
 -- a task that is created with a body, if there is one
-segment_new : (state : MachineState) (id : ℕ) (name : List ℕ) (o : Option ScriptBody) → IsFreeId state.tasks.objects.table id → AreNew state (segment_with id name o)
-segment_new state id name None free = inl refl
-segment_new state id name (Some body) free =
-    inr (record { id = id; name = name; body = body; entries = [] }, refl, record { fresh = refl; id = free })
+segment_new : (state : MachineState) (id : ℕ) (name : List ℕ) (bodies : List ScriptBody) (o : Option ScriptBody) → IsFreeId state.tasks.objects.table id → AreNew state (segment_with id name bodies o)
+segment_new state id name bodies None free = inl refl
+segment_new state id name bodies (Some body) free =
+    inr (record { id = id; name = name; bodies = bodies; body = body; entries = [] }, refl, record { fresh = refl; id = free })
 
 -- what a call begins that succeeds
 begun_new : (app : Application) (state : MachineState) → state.tasks.objects.table.kind ≡ 1 → IsCapacity state.tasks.objects.table.capacity → (task : ℕ) (now : Moment) (made : Call) → is_success (step state task now made).0.answer ≡ true → AreNew state (begun_by app made (step state task now made).0.number)
 begun_new app state typed room task now (call.TaskCreate name body stack priority) good =
-    segment_new state (step state task now (call.TaskCreate name body stack priority)).0.number name.bytes (slice_get app.bodies body) (fresh_task state.tasks typed room name.bytes body stack priority good)
+    segment_new state (step state task now (call.TaskCreate name body stack priority)).0.number name.bytes app.bodies (slice_get app.bodies body) (fresh_task state.tasks typed room name.bytes body stack priority good)
 begun_new app state typed room task now _ good = inl refl
 
 -- what an entry with the machine's reply begins

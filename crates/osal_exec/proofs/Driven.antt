@@ -58,7 +58,7 @@ module _ (app : Application) (drive : Drive) (driven : IsDriven app drive) where
     pub spare_for : 0 < drive.journal.spare
     spare_for =
         let enough = driven.room in
-        let most = cost_bounds_entries app (drive.journal.entries ++ entry ∷ []) driven.later way.part in
+        let most = cost_bounds_entries app (drive.journal.entries ++ entry ∷ []) driven.later driven.bare way.part in
         omega (arith, length_push drive.journal.entries entry)
 
     -- the driver with it
@@ -69,6 +69,7 @@ module _ (app : Application) (drive : Drive) (driven : IsDriven app drive) where
         let enough = driven.room in
         record {
           later = driven.later;
+          bare = driven.bare;
           way = subst (IsUnderWay app) (sym pushed.entries) way;
           room = omega arith;
           replayed = left ∙ sym (replay_push (opening version1) drive.journal.entries entry) ∙ ap (replay version1) (sym pushed.entries);

@@ -98,7 +98,7 @@ module _ (segments : List Segment) (runners : List (Option Running)) (running : 
   module _ (new : Segment) (fresh : new.entries ≡ []) (free : (id : ℕ) → is_ended (newest_script segments id).phase ≡ false → slot_of_task id ≡ slot_of_task new.id → ⊥) where
     -- the runner of the segment that begins
     abbrev first : Running
-    first = record { id = new.id; script = start_of new.body }
+    first = record { id = new.id; script = start_of new.bodies new.body }
 
     -- it stands in its slot
     first_here : runner_at (with_begun runners (new ∷ [])) (slot_of_task new.id) ≡ Some first
@@ -110,7 +110,7 @@ module _ (segments : List Segment) (runners : List (Option Running)) (running : 
     first_there other ne = get_or-set_other runners (slot_of_task new.id) other (Some first) None ne
 
     -- the newest script of the new task is at its start
-    newest_first : (id : ℕ) → id ≡ new.id → newest_script (segments ++ new ∷ []) id ≡ start_of new.body
+    newest_first : (id : ℕ) → id ≡ new.id → newest_script (segments ++ new ∷ []) id ≡ start_of new.bodies new.body
     newest_first id same =
         newest_push segments new id
         ∙ ap (λ b. cond b (script_in new) (newest_script segments id)) (eq-eqb new.id id (sym same))

@@ -62,4 +62,4 @@ module _ (app : Application) (drive : Drive) (driven : IsDriven app drive) (slot
 -- each entry leaves less of the cost
 pub nearer : (app : Application) (old new : Drive) → IsDriven app new → length old.journal.entries < length new.journal.entries → cost_of app - length new.journal.entries < cost_of app - length old.journal.entries
 nearer app old new driven grown =
-    let most = cost_bounds_entries app new.journal.entries driven.later driven.way.part in omega arith
+    let most = cost_bounds_entries app new.journal.entries driven.later driven.bare driven.way.part in omega arith

@@ -7,7 +7,7 @@ use Rattle.osal_machine.specs.declared.call.Entry.{Entry}
 use Rattle.osal_machine.specs.Step.{MachineState, step}
 use Rattle.osal_machine.specs.Journal.{Entries}
 use Rattle.osal_machine.specs.History.{replay}
-use Rattle.osal_script.specs.App.{Application, NamesLater}
+use Rattle.osal_script.specs.App.{Application, NamesLater, HandlersAreBare}
 use Rattle.osal_script.specs.Cost.{cost_of}
 use Rattle.osal_runs.specs.Segments.{begun, segments_of}
 use Rattle.osal_runs.specs.Linked.{newest_script, is_leaving, is_creation}
@@ -47,6 +47,7 @@ drive_of journal state runners = record { journal = journal; state = state; runn
 -- the journal so far is a front of a run with room for the rest, and the machine and the runners are where it leads
 pub record IsDriven (app : Application) (drive : Drive) : Type 0 where
   pub later : NamesLater app
+  pub bare : HandlersAreBare app
   pub way : IsUnderWay app drive.journal.entries
   pub room : cost_of app ≤ length drive.journal.entries + drive.journal.spare
   pub replayed : drive.state ≡ replay version1 drive.journal.entries

@@ -45,7 +45,7 @@ with_entry runners slot entry = slice_set runners slot (gone_on entry (runner_at
 abbrev pub with_begun : List (Option Running) → List Segment → List (Option Running)
 with_begun runners [] = runners
 with_begun runners (segment ∷ segments) =
-    slice_set runners (slot_of_task segment.id) (Some (record { id = segment.id; script = start_of segment.body }))
+    slice_set runners (slot_of_task segment.id) (Some (record { id = segment.id; script = start_of segment.bodies segment.body }))
 
 -- a segment's identifier is one: a number of 32 bits
 abbrev pub IsIdentifier : Segment → Type 0

@@ -2,7 +2,7 @@
 ghost use Rattle.std.specs.Prelude.{◌≡◌, ◌≤◌, [], OnOk, OnErr};
 ghost use Rattle.osal_script.specs.Cost.{cost_of};
 ghost use Rattle.osal_runs.specs.Runs.{IsPartRun, IsRun};
-ghost use Rattle.osal_exec.specs.declared.driver.Outcome.TheVariants.{Settled, NoMemory};
+ghost use Rattle.osal_exec.specs.declared.driver.Outcome.TheVariants as outcome;
 
 use crate::Gate;
 use crate::stage::Stage;
@@ -17,7 +17,7 @@ pub enum Outcome {
     /// No task can go on, and no wait becomes due.
     Settled,
     /// There was no memory to go on.
-    NoMemory,
+    OutOfMemory,
 }
 
 /// Runs the tasks of an application until the run is settled.
@@ -49,11 +49,11 @@ fn run_tasks<G: Gate>(
 pub fn drive<G: Gate>(alloc: Global, app: &App, gate: &G, journal: &mut Journal) -> Outcome
     requires empty { journal.old.entries ≡ [] }
     requires cost { cost_of app.now ≤ 300000 }
-    ensures settled { result ≡ Settled → IsRun app.now journal.new.entries }
-    ensures memory { result ≡ NoMemory → IsPartRun app.now journal.new.entries }
+    ensures settled { result ≡ outcome.Settled → IsRun app.now journal.new.entries }
+    ensures memory { result ≡ outcome.OutOfMemory → IsPartRun app.now journal.new.entries }
 {
     match run_tasks(alloc, app, gate, journal) {
         Ok(()) => Outcome::Settled,
-        Err(OutOfMemory) => Outcome::NoMemory,
+        Err(OutOfMemory) => Outcome::OutOfMemory,
     }
 }

@@ -126,7 +126,7 @@ impl<'a> Runners<'a> {
         if let Call::TaskCreate { body, .. } = &made.call {
             if *body < app.bodies() {
                 let id = OsalId::of_raw(made.reply.number as u32);
-                self.put(id, Cursor::new(app.body(*body)));
+                self.put(id, Cursor::new(app, app.body(*body)));
             }
         }
     }

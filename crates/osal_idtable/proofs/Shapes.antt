@@ -1,5 +1,5 @@
 -- Every table keeps the type of its objects and the number of its slots.
-use Rattle.std.proofs.Common.{◌≡◌, ◌-◌, ◌+◌, ℕ, List, [], ◌∷◌, nat_lt, Option, Some, None, Result, Ok, Err, refl, ap, subst, ◌∙◌}
+use Rattle.std.proofs.Common.{◌≡◌, ℕ, List, [], ◌∷◌, nat_lt, Option, Some, None, Result, Ok, Err, refl, subst, ◌∙◌}
 use Rattle.std.specs.FinMap as map
 use Rattle.osal_idtable.specs.declared.place.Place.{Place}
 use Rattle.osal_idtable.specs.declared.table.IdFault.{IdFault}

@@ -1,6 +1,6 @@
 -- What each step of the object layer does to the open waits.
-use Rattle.std.proofs.Common.{◌≡◌, ℕ, Bool, true, false, cond, List, nat_lt, length, Option, Some, None, is_some, Result, Ok, Err, refl, sym, ap, subst, ◌∙◌}
-use Rattle.std.proofs.lemmas.Bool.{false≢true, true≢false}
+use Rattle.std.proofs.Common.{◌≡◌, ℕ, Bool, true, false, List, nat_lt, Option, Some, None, is_some, Result, Ok, Err, refl, sym, ◌∙◌}
+use Rattle.std.proofs.lemmas.Bool.{false≢true}
 use Rattle.osal_base.specs.declared.name.NameFault.{NameFault}
 use Rattle.osal_base.specs.declared.reply.Answer.{Answer}
 use Rattle.osal_base.specs.declared.status.Status.{Status}
@@ -13,12 +13,11 @@ use Rattle.osal_idtable.specs.declared.table.IdFault.{IdFault}
 use Rattle.osal_idtable.specs.declared.table.ReserveFault.{ReserveFault}
 use Rattle.osal_idtable.specs.declared.waits.WaitRecord.{WaitRecord}
 use Rattle.osal_idtable.specs.Table.{Active, TableState, Reserved, active_at}
-use Rattle.osal_idtable.specs.Steps.{reserve_step, remove_step, unheld, find_id}
+use Rattle.osal_idtable.specs.Steps.{reserve_step, remove_step, find_id}
 use Rattle.osal_idtable.specs.Faults.{answered, found_id, unless, under_name}
-use Rattle.osal_idtable.specs.Waits.{WaitsState, wait_of, wait_fault, waits_on}
+use Rattle.osal_idtable.specs.Waits.{wait_of, wait_fault, waits_on}
 use Rattle.osal_idtable.specs.Objects.{ObjectsState, found_by, find_reply, info_reply, created, create_step, delete_step, held_by_caller, hold_call_step, released_by_caller, release_call_step, caller_hold_limit}
 use Rattle.osal_idtable.specs.Waiting.{begun, begin_step, ended, end_wait, abandoned, abandon_step, release_waits}
-use Rattle.osal_idtable.proofs.Balance.{may_begin}
 use Rattle.osal_idtable.proofs.Holding.{either}
 use Rattle.osal_idtable.proofs.OpenWaits.{WaitsSeen, seen_of, SameWaits, same_waits, IsOpened, IsClosed, released_same, with_opened, without_closed}
 

@@ -10,7 +10,6 @@ use Rattle.osal_idtable.specs.declared.waits.WaitRecord.{WaitRecord}
 use Rattle.osal_idtable.specs.Table.{Active}
 use Rattle.osal_idtable.specs.Faults.{unless}
 use Rattle.osal_idtable.specs.Waits.{wait_of, is_due, stands_on}
-use Rattle.osal_idtable.specs.Waiting.{abandoned}
 use Rattle.osal_idtable.specs.Objects.{create_step}
 use Rattle.osal_idtable.specs.Moves.{Put, Hold, Release, Begin, End, Mark, Create, Remove, Changes}
 use Rattle.osal_sem.specs.declared.binary.BinSem.{BinSem}
@@ -19,7 +18,7 @@ use Rattle.osal_sem.specs.Binary.{BinSemState, bin_sem_at, bin_sem, is_full, in_
 use Rattle.osal_machine.specs.declared.call.Call.{Call}
 use Rattle.osal_machine.specs.declared.call.Call.TheVariants as call
 use Rattle.osal_machine.specs.Parts.{bin_sem_step}
-use Rattle.osal_machine.proofs.Moves.{IsMove, either, stays, changes}
+use Rattle.osal_machine.proofs.Moves.{IsMove, either, stays, changes, abandon_moves}
 
 module _ (sems : BinSemState) where
   -- a step of the part makes one move
@@ -63,10 +62,6 @@ module _ (sems : BinSemState) where
       (either Moves (is_full (bin_sem_at sems wait.what)) _ _ (emptied_moves task wait.what)
       (either Moves (is_due wait now) _ _ (changes sems.objects (End task) tt) (stays sems.objects)))
 
-  abandon_moves : (task : ℕ) (found : Option (WaitRecord ℕ)) → IsMove sems.objects (abandoned sems.objects task found).1
-  abandon_moves task None = stays sems.objects
-  abandon_moves task (Some wait) = changes sems.objects (End task) tt
-
   -- a call of the part makes one move
   pub bin_sem_moves : (task : ℕ) (now : Moment) (made : Call) → Moves (bin_sem_step sems task now made)
   bin_sem_moves task now (call.BinSemCreate name value) = create_moves name.bytes value (name_fault name.bytes)
@@ -77,5 +72,5 @@ module _ (sems : BinSemState) where
   bin_sem_moves task now (call.Hold id) = changes sems.objects (Hold id) tt
   bin_sem_moves task now (call.Release id) = changes sems.objects (Release id) tt
   bin_sem_moves task now (call.WaitEnd part) = end_moves task now (wait_of sems.objects.waits task)
-  bin_sem_moves task now (call.WaitAbandon part) = abandon_moves task (wait_of sems.objects.waits task)
+  bin_sem_moves task now (call.WaitAbandon part) = abandon_moves sems.objects task (wait_of sems.objects.waits task)
   bin_sem_moves task now other = stays sems.objects

@@ -1,5 +1,5 @@
 -- What the calls on binary semaphores do to the open takes.
-use Rattle.std.proofs.Common.{◌≡◌, ℕ, Bool, true, false, Option, Some, None, nat_lt, is_some, refl, ap}
+use Rattle.std.proofs.Common.{◌≡◌, ℕ, true, false, Option, Some, None, nat_lt, is_some, refl, ap}
 use Rattle.std.proofs.lemmas.Bool.{cond_both, true≢false}
 use Rattle.osal_base.specs.declared.time.Moment.{Moment}
 use Rattle.osal_base.specs.declared.time.Timeout.{Timeout}

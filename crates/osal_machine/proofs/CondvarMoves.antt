@@ -12,7 +12,7 @@ use Rattle.osal_idtable.specs.Table.{Active}
 use Rattle.osal_idtable.specs.Holds.{is_held}
 use Rattle.osal_idtable.specs.Faults.{unless}
 use Rattle.osal_idtable.specs.Waits.{is_of, wait_of, is_due}
-use Rattle.osal_idtable.specs.Waiting.{begin_step, abandoned}
+use Rattle.osal_idtable.specs.Waiting.{begin_step}
 use Rattle.osal_idtable.specs.Objects.{create_step}
 use Rattle.osal_idtable.specs.Moves.{Put, Hold, Release, Begin, End, Mark, Create, Remove, Changes}
 use Rattle.osal_condvar.specs.declared.condvar.Condvar.{Condvar}
@@ -24,7 +24,7 @@ use Rattle.osal_condvar.specs.Condvars.{CondvarState, condvar_at, in_condvars, i
 use Rattle.osal_machine.specs.declared.call.Call.{Call}
 use Rattle.osal_machine.specs.declared.call.Call.TheVariants as call
 use Rattle.osal_machine.specs.Parts.{condvar_step}
-use Rattle.osal_machine.proofs.Moves.{IsMove, either, stays, changes}
+use Rattle.osal_machine.proofs.Moves.{IsMove, either, stays, changes, abandon_moves}
 
 module _ (condvars : CondvarState) where
   -- a step of the part makes one move
@@ -113,10 +113,6 @@ module _ (condvars : CondvarState) where
   end_moves task now None = stays condvars.objects
   end_moves task now (Some wait) = ended_moves task now wait (condvar_at condvars wait.what.id)
 
-  abandon_moves : (task : ℕ) (found : Option (WaitRecord CondvarWait)) → IsMove condvars.objects (abandoned condvars.objects task found).1
-  abandon_moves task None = stays condvars.objects
-  abandon_moves task (Some wait) = changes condvars.objects (End task) tt
-
   -- a call of the part makes one move
   pub condvar_moves : (task : ℕ) (now : Moment) (made : Call) → Moves (condvar_step condvars task now made)
   condvar_moves task now (call.CondvarCreate name) = create_moves name.bytes (name_fault name.bytes)
@@ -129,5 +125,5 @@ module _ (condvars : CondvarState) where
   condvar_moves task now (call.Hold id) = changes condvars.objects (Hold id) tt
   condvar_moves task now (call.Release id) = changes condvars.objects (Release id) tt
   condvar_moves task now (call.WaitEnd part) = end_moves task now (wait_of condvars.objects.waits task)
-  condvar_moves task now (call.WaitAbandon part) = abandon_moves task (wait_of condvars.objects.waits task)
+  condvar_moves task now (call.WaitAbandon part) = abandon_moves condvars.objects task (wait_of condvars.objects.waits task)
   condvar_moves task now other = stays condvars.objects

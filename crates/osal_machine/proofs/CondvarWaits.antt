@@ -1,5 +1,5 @@
 -- What the calls on condition variables do to the open waits.
-use Rattle.std.proofs.Common.{◌≡◌, ◌==◌, ℕ, Bool, true, false, cond, List, Option, Some, None, is_some, refl, ap}
+use Rattle.std.proofs.Common.{◌≡◌, ◌==◌, ℕ, true, false, Option, Some, None, is_some, refl, ap}
 use Rattle.std.proofs.lemmas.Bool.{cond_both, true≢false}
 use Rattle.osal_base.specs.declared.time.Moment.{Moment}
 use Rattle.osal_base.specs.declared.time.Timeout.{Timeout}

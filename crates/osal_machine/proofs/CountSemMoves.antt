@@ -10,7 +10,6 @@ use Rattle.osal_idtable.specs.declared.waits.WaitRecord.{WaitRecord}
 use Rattle.osal_idtable.specs.Table.{Active}
 use Rattle.osal_idtable.specs.Faults.{unless}
 use Rattle.osal_idtable.specs.Waits.{wait_of, is_due}
-use Rattle.osal_idtable.specs.Waiting.{abandoned}
 use Rattle.osal_idtable.specs.Moves.{Put, Hold, Release, Begin, End, Create, Remove, Changes}
 use Rattle.osal_sem.specs.declared.counting.CountSem.{CountSem}
 use Rattle.osal_sem.specs.Counting as of_counts
@@ -18,7 +17,7 @@ use Rattle.osal_sem.specs.Counting.{CountSemState, count_sem, count_sem_at, valu
 use Rattle.osal_machine.specs.declared.call.Call.{Call}
 use Rattle.osal_machine.specs.declared.call.Call.TheVariants as call
 use Rattle.osal_machine.specs.Parts.{count_sem_step}
-use Rattle.osal_machine.proofs.Moves.{IsMove, either, stays, changes}
+use Rattle.osal_machine.proofs.Moves.{IsMove, either, stays, changes, abandon_moves}
 
 module _ (sems : CountSemState) where
   -- a step of the part makes one move
@@ -61,10 +60,6 @@ module _ (sems : CountSemState) where
       (taken_moves task wait.what (value_of (count_sem_at sems wait.what) - 1))
       (either Moves (is_due wait now) _ _ (changes sems.objects (End task) tt) (stays sems.objects))
 
-  abandon_moves : (task : ℕ) (found : Option (WaitRecord ℕ)) → IsMove sems.objects (abandoned sems.objects task found).1
-  abandon_moves task None = stays sems.objects
-  abandon_moves task (Some wait) = changes sems.objects (End task) tt
-
   -- a call of the part makes one move
   pub count_sem_moves : (task : ℕ) (now : Moment) (made : Call) → Moves (count_sem_step sems task now made)
   count_sem_moves task now (call.CountSemCreate name value) = create_moves name.bytes value (name_fault name.bytes)
@@ -74,5 +69,5 @@ module _ (sems : CountSemState) where
   count_sem_moves task now (call.Hold id) = changes sems.objects (Hold id) tt
   count_sem_moves task now (call.Release id) = changes sems.objects (Release id) tt
   count_sem_moves task now (call.WaitEnd part) = end_moves task now (wait_of sems.objects.waits task)
-  count_sem_moves task now (call.WaitAbandon part) = abandon_moves task (wait_of sems.objects.waits task)
+  count_sem_moves task now (call.WaitAbandon part) = abandon_moves sems.objects task (wait_of sems.objects.waits task)
   count_sem_moves task now other = stays sems.objects

@@ -1,10 +1,10 @@
 -- What the calls on counting semaphores do to the open takes.
-use Rattle.std.proofs.Common.{◌≡◌, ◌-◌, ℕ, Bool, true, false, List, Option, Some, None, nat_lt, is_some, refl, ap}
+use Rattle.std.proofs.Common.{◌≡◌, ◌-◌, ℕ, true, false, List, Option, Some, None, nat_lt, is_some, refl, ap}
 use Rattle.std.proofs.lemmas.Bool.{cond_both, true≢false}
 use Rattle.osal_base.specs.declared.time.Moment.{Moment}
 use Rattle.osal_base.specs.declared.time.Timeout.{Timeout}
 use Rattle.osal_base.specs.declared.time.Timeout.TheVariants as timeout
-use Rattle.osal_base.specs.Reply.{Replied, is_waits}
+use Rattle.osal_base.specs.Reply.{Replied}
 use Rattle.osal_base.specs.Time.{is_check}
 use Rattle.osal_idtable.specs.declared.waits.WaitRecord.{WaitRecord}
 use Rattle.osal_idtable.specs.Table.{Active}

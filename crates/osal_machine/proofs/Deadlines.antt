@@ -30,4 +30,4 @@ next_of_parts state now tasks queues count_sems bin_sems mutexes condvars all at
     let from_queues = before_others of_queues (of_count_sems ++ (of_bin_sems ++ (of_mutexes ++ (of_condvars ++ [])))) queues (sooner count_sems (sooner bin_sems (sooner mutexes condvars))) in_queues from_count_sems in
     found
     ∙ before_others of_tasks (of_queues ++ (of_count_sems ++ (of_bin_sems ++ (of_mutexes ++ (of_condvars ++ []))))) tasks (sooner queues (sooner count_sems (sooner bin_sems (sooner mutexes condvars)))) in_tasks from_queues
-    ∙ ap (λ (m : Moment). next_deadline (record state { time = record { moment = m } })) at
+    ∙ ap (λ (m : Moment). next_deadline (record state { time = record state.time { moment = m } })) at

@@ -1,5 +1,5 @@
 -- A task that is marked for deletion is not held, so its checkpoint removes it.
-use Rattle.std.proofs.Common.{◌≡◌, ◌==◌, ℕ, Bool, true, false, cond, nat_eq, List, [], ◌∷◌, nat_lt, Option, Some, None, Result, refl, sym, ap, subst, ◌∙◌, arith}
+use Rattle.std.proofs.Common.{◌≡◌, ◌==◌, ℕ, true, cond, List, [], ◌∷◌, nat_lt, Option, Some, None, Result, refl, sym, ap, subst, ◌∙◌, arith}
 use Rattle.std.specs.FinMap as map
 use Rattle.std.proofs.lemmas.Bool.{cond_both}
 use Rattle.std.proofs.lemmas.Bool.Decides.{nat_tests}
@@ -23,14 +23,13 @@ use Rattle.osal_idtable.specs.Objects.{create_step, delete_step}
 use Rattle.osal_idtable.proofs.WellFormed.{gone_here, no_active}
 use Rattle.osal_task.specs.declared.part.Task.{Task}
 use Rattle.osal_task.specs.Tasks as of_tasks
-use Rattle.osal_task.specs.Tasks.{TaskState, task_at, lowest_priority, new_task, in_tasks, no_tasks}
+use Rattle.osal_task.specs.Tasks.{TaskState, task_at, lowest_priority, new_task, in_tasks}
 use Rattle.osal_task.specs.Delays as of_delays
 use Rattle.osal_machine.specs.declared.call.Call.{Call}
 use Rattle.osal_machine.specs.declared.call.Call.TheVariants as call
 use Rattle.osal_machine.specs.declared.call.Entry.{Entry}
-use Rattle.osal_machine.specs.Call.{part_of}
-use Rattle.osal_machine.specs.Parts.{task_step, part_step}
-use Rattle.osal_machine.specs.Step.{MachineState, opening, with_part, step}
+use Rattle.osal_machine.specs.Parts.{task_step}
+use Rattle.osal_machine.specs.Step.{MachineState, opening, step}
 use Rattle.osal_machine.specs.History.{after_entry, replay_from, replay}
 use Rattle.osal_machine.specs.Laws.{MarkedTasksAreUnheld, DeletedTasksAreGone}
 use Rattle.osal_machine.proofs.Histories.{replay_push, legal_last}

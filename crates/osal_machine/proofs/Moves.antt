@@ -1,8 +1,10 @@
 -- Objects that change by moves alone keep what is held, and know an identifier again only after a wrap.
 use Rattle.std.proofs.Common.{◌≡◌, ◌<◌, ◌-◌, ◌^◌, ℕ, Bool, true, false, cond, List, [], ◌∷◌, Option, Some, None, is_some, refl, ap, sym, subst, ◌∙◌, arith}
+use Rattle.osal_idtable.specs.declared.waits.WaitRecord.{WaitRecord}
 use Rattle.osal_idtable.specs.Table.{Active, active_at}
+use Rattle.osal_idtable.specs.Waiting.{abandoned}
 use Rattle.osal_idtable.specs.Objects.{ObjectsState}
-use Rattle.osal_idtable.specs.Moves.{Change, Move, Changes, changed, after_changes, moved, after_moves, IsAllowed, AreAllowed, MayMove, MayMoveAll}
+use Rattle.osal_idtable.specs.Moves.{Change, End, Move, Changes, changed, after_changes, moved, after_moves, IsAllowed, AreAllowed, MayMove, MayMoveAll}
 use Rattle.osal_idtable.specs.ObjectLaws.{HeldObjectsStay, NotActiveAgain}
 use Rattle.osal_idtable.proofs.Activity.{Alike, changes_alike}
 use Rattle.osal_machine.specs.Laws.{holds_of}
@@ -11,6 +13,16 @@ use Rattle.osal_machine.specs.Laws.{holds_of}
 pub either : {A : Type 0} (P : A → Type 0) (test : Bool) (first second : A) → P first → P second → P (cond test first second)
 either P true first second holds other = holds
 either P false first second holds other = other
+
+-- the wrap count rises where an identifier was not active, was, was not, and is active again
+abbrev pub IsRise : Bool → Bool → Bool → Bool → ℕ → ℕ → Type 0
+IsRise old start later new before after =
+    old ≡ false
+    → start ≡ true
+    → later ≡ false
+    → new ≡ true
+    → before < 2 ^ 64 - 1
+    → before < after
 
 module _ {T W : Type 0} where
   -- a move that may be made leads from the old objects to the new
@@ -55,6 +67,15 @@ module _ {T W : Type 0} where
   pub changes : (objects : ObjectsState T W) (change : Change T W) → IsAllowed objects change → IsMove objects (changed objects change)
   changes objects change may = record { move = Changes (change ∷ []); may = (may, tt); is = refl }
 
+  -- a wait that is given up ends, where there is one
+  pub abandon_changes : (objects : ObjectsState T W) (task : ℕ) (found : Option (WaitRecord W)) → AreChanges objects (abandoned objects task found).1
+  abandon_changes objects task None = unchanged objects
+  abandon_changes objects task (Some wait) = one_change objects (End task) tt
+
+  -- this is one move
+  pub abandon_moves : (objects : ObjectsState T W) (task : ℕ) (found : Option (WaitRecord W)) → IsMove objects (abandoned objects task found).1
+  abandon_moves objects task found = by_changes objects _ (abandon_changes objects task found)
+
   -- no moves
   pub none_moved : (objects : ObjectsState T W) → AreMoves objects objects
   none_moved objects = record { moves = []; may = tt; are = refl }
@@ -80,15 +101,10 @@ module _ {T W : Type 0} where
   gone_unheld held old new id by gone =
       unheld_at held old by.move id (active_at old.table id) refl (sym (ap (λ o. is_there o id) by.is) ∙ gone)
 
-  -- the wrap count rises where an identifier was not active, was, was not, and is active again
+  -- the wrap count of some objects rises so
   abbrev pub Rises : ℕ → ObjectsState T W → ObjectsState T W → ObjectsState T W → ObjectsState T W → Type 0
   Rises id old start later new =
-      is_there old id ≡ false
-      → is_there start id ≡ true
-      → is_there later id ≡ false
-      → is_there new id ≡ true
-      → start.table.wraps < 2 ^ 64 - 1
-      → start.table.wraps < new.table.wraps
+      IsRise (is_there old id) (is_there start id) (is_there later id) (is_there new id) start.table.wraps new.table.wraps
 
   -- the wrap count rises between two moves that make an identifier active
   pub active_again : NotActiveAgain T W → (id : ℕ) (old start later new : ObjectsState T W) → IsMove old start → AreMoves start later → IsMove later new → Rises id old start later new

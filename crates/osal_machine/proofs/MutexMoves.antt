@@ -9,7 +9,6 @@ use Rattle.osal_idtable.specs.Table.{Active}
 use Rattle.osal_idtable.specs.Holds.{is_held}
 use Rattle.osal_idtable.specs.Faults.{unless}
 use Rattle.osal_idtable.specs.Waits.{wait_of}
-use Rattle.osal_idtable.specs.Waiting.{abandoned}
 use Rattle.osal_idtable.specs.Objects.{create_step}
 use Rattle.osal_idtable.specs.Moves.{Put, Hold, Release, Begin, End, Create, Remove, Changes}
 use Rattle.osal_mutex.specs.declared.mutex.Lock.{Lock}
@@ -20,7 +19,7 @@ use Rattle.osal_mutex.specs.Mutexes.{MutexState, mutex_at, free_mutex, is_owned,
 use Rattle.osal_machine.specs.declared.call.Call.{Call}
 use Rattle.osal_machine.specs.declared.call.Call.TheVariants as call
 use Rattle.osal_machine.specs.Parts.{mutex_step}
-use Rattle.osal_machine.proofs.Moves.{IsMove, either, stays, changes}
+use Rattle.osal_machine.proofs.Moves.{IsMove, either, stays, changes, abandon_moves}
 
 module _ (mutexes : MutexState) where
   -- a step of the part makes one move
@@ -74,10 +73,6 @@ module _ (mutexes : MutexState) where
   end_moves task None = stays mutexes.objects
   end_moves task (Some wait) = taken_moves task wait (mutex_at mutexes wait.what)
 
-  abandon_moves : (task : ℕ) (found : Option (WaitRecord ℕ)) → IsMove mutexes.objects (abandoned mutexes.objects task found).1
-  abandon_moves task None = stays mutexes.objects
-  abandon_moves task (Some wait) = changes mutexes.objects (End task) tt
-
   -- a call of the part makes one move
   pub mutex_moves : (task : ℕ) (now : Moment) (made : Call) → Moves (mutex_step mutexes task now made)
   mutex_moves task now (call.MutSemCreate name) = create_moves task name.bytes (name_fault name.bytes)
@@ -87,5 +82,5 @@ module _ (mutexes : MutexState) where
   mutex_moves task now (call.Hold id) = changes mutexes.objects (Hold id) tt
   mutex_moves task now (call.Release id) = changes mutexes.objects (Release id) tt
   mutex_moves task now (call.WaitEnd part) = end_moves task (wait_of mutexes.objects.waits task)
-  mutex_moves task now (call.WaitAbandon part) = abandon_moves task (wait_of mutexes.objects.waits task)
+  mutex_moves task now (call.WaitAbandon part) = abandon_moves mutexes.objects task (wait_of mutexes.objects.waits task)
   mutex_moves task now other = stays mutexes.objects

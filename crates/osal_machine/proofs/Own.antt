@@ -4,15 +4,15 @@ use Rattle.std.proofs.lemmas.Bool.{cond_both, cases_eq, eqb-true}
 use Rattle.std.proofs.lemmas.Bool.Decides.{nat_tests}
 use Rattle.osal_base.specs.declared.time.Moment.{Moment}
 use Rattle.osal_task.specs.Tasks.{TaskState}
+use Rattle.osal_time.specs.Time.{TimeState}
 use Rattle.osal_machine.specs.declared.call.Call.{Call}
 use Rattle.osal_machine.specs.Call.{part_of}
-use Rattle.osal_machine.specs.Time.{TimeState}
 use Rattle.osal_machine.specs.Parts.{PartState, Tasks, Queues, CountSems, BinSems, Mutexes, Condvars, Time, Absent, task_step, time_step, part_step}
 use Rattle.osal_machine.specs.Step.{MachineState, part_in, with_part, step}
 use Rattle.osal_machine.specs.Laws.{CallsChangeTheirPart}
 
 -- the part that seven tests choose, one for each part that is built
-abbrev pub chosen : Bool → Bool → Bool → Bool → Bool → Bool → Bool → MachineState → PartState
+abbrev chosen : Bool → Bool → Bool → Bool → Bool → Bool → Bool → MachineState → PartState
 chosen tasks queues count_sems bin_sems mutexes condvars time state =
     cond tasks (Tasks state.tasks)
     (cond queues (Queues state.queues)
@@ -65,7 +65,7 @@ time_in other _ = other
 
 module _ (state : MachineState) (task : ℕ) (now : Moment) (made : Call) where
   -- a call makes a step of the part of a number that is its own
-  own_at : (part : ℕ) → part ≡ part_of made → part_in part (step state task now made).1 ≡ (part_step (part_in part state) task now made).1
+  pub own_at : (part : ℕ) → part ≡ part_of made → part_in part (step state task now made).1 ≡ (part_step (part_in part state) task now made).1
   own_at part is =
       subst (λ n. part_in n (step state task now made).1 ≡ (part_step (part_in n state) task now made).1) (sym is) (own_step state task now made)
 

@@ -1,5 +1,5 @@
 -- What a call does to the open waits of a part, whichever part it is.
-use Rattle.std.proofs.Common.{◌≡◌, ℕ, Bool, true, false, [], nat_lt, refl, sym, subst, ap}
+use Rattle.std.proofs.Common.{◌≡◌, ℕ, true, false, refl, sym, subst}
 use Rattle.osal_base.specs.declared.time.Moment.{Moment}
 use Rattle.osal_base.specs.Reply.{Replied, is_waits}
 use Rattle.osal_idtable.specs.Waits.{WaitsState, no_waits}
@@ -12,11 +12,10 @@ use Rattle.osal_idtable.proofs.WaitSteps.{IsWaitStep, IsWaitEnd, Refuses, goes}
 use Rattle.osal_condvar.specs.declared.condvar.CondvarWait.{CondvarWait}
 use Rattle.osal_machine.specs.declared.call.Call.{Call}
 use Rattle.osal_machine.specs.declared.call.Call.TheVariants as call
-use Rattle.osal_machine.specs.Time.{TimeState}
-use Rattle.osal_machine.specs.Parts.{PartState, Tasks, Queues, CountSems, BinSems, Mutexes, Condvars, Time, Absent, absent_reply, time_step, part_step}
+use Rattle.osal_machine.specs.Parts.{PartState, Tasks, Queues, CountSems, BinSems, Mutexes, Condvars, Time, Absent, absent_reply, part_step}
 use Rattle.osal_machine.specs.Step.{MachineState, part_in}
 use Rattle.osal_machine.specs.OpenWaits.{has_wait, deadlines_of, WaitsOnce}
-use Rattle.osal_machine.proofs.Moves.{IsMove, either}
+use Rattle.osal_machine.proofs.Moves.{IsMove}
 use Rattle.osal_machine.proofs.Own.{by_number}
 use Rattle.osal_machine.proofs.TaskMoves.{task_moves}
 use Rattle.osal_machine.proofs.QueueMoves.{queue_moves}
@@ -30,6 +29,7 @@ use Rattle.osal_machine.proofs.CountSemWaits.{count_sem_waits, count_sem_ends, c
 use Rattle.osal_machine.proofs.BinSemWaits.{bin_sem_waits, bin_sem_ends, bin_sem_abandons}
 use Rattle.osal_machine.proofs.MutexWaits.{mutex_waits, mutex_ends, mutex_abandons}
 use Rattle.osal_machine.proofs.CondvarWaits.{condvar_waits, condvar_ends, condvar_abandons}
+use Rattle.osal_machine.proofs.TimeWaits.{time_answers}
 use Rattle.osal_machine.proofs.Timeouts.{timeout_of, ends_wait}
 
 -- what is seen of the open waits of a part
@@ -68,16 +68,7 @@ module _ (task : ℕ) (now : Moment) (made : Call) where
   part_waits (BinSems sems) other = bin_sem_waits sems task now made other
   part_waits (Mutexes mutexes) other = mutex_waits mutexes task now made other
   part_waits (Condvars condvars) other = condvar_waits condvars task now made other
-  part_waits (Time time) other = time_goes made
-    where
-      time_answered : (to : ℕ) → is_waits (time_step time (call.Advance to)).0.answer ≡ false
-      time_answered to = either (λ (r : Replied × TimeState). is_waits r.0.answer ≡ false) (nat_lt time.moment.ms to) _ _ refl refl
-
-      time_goes : (made : Call) → IsWaitStep (seen_in (Time time)) task (timeout_of made) (time_step time made).0.answer (seen_in (Time (time_step time made).1))
-      time_goes (call.Advance to) = goes (time_answered to)
-      time_goes (call.Hold id) = goes refl
-      time_goes (call.Release id) = goes refl
-      time_goes _ = goes refl
+  part_waits (Time time) other = goes (time_answers time made)
   part_waits Absent other = absent_goes
 
   once_by : {T W : Type 0} (other : ℕ) (old new : ObjectsState T W) → IsMove old new → AtMostOne (is_of other) old.waits.records → AtMostOne (is_of other) new.waits.records

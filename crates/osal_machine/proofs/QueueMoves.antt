@@ -10,7 +10,6 @@ use Rattle.osal_idtable.specs.declared.waits.WaitRecord.{WaitRecord}
 use Rattle.osal_idtable.specs.Table.{Active}
 use Rattle.osal_idtable.specs.Faults.{unless}
 use Rattle.osal_idtable.specs.Waits.{wait_of, is_due}
-use Rattle.osal_idtable.specs.Waiting.{abandoned}
 use Rattle.osal_idtable.specs.Moves.{Put, Hold, Release, Begin, End, Create, Remove, Changes}
 use Rattle.osal_queue.specs.Queue.{Queue, may_be_sized, empty_queue, with_messages}
 use Rattle.osal_queue.specs.Queues as of_queues
@@ -18,7 +17,7 @@ use Rattle.osal_queue.specs.Queues.{QueueState, queue_at, waiting_get}
 use Rattle.osal_machine.specs.declared.call.Call.{Call}
 use Rattle.osal_machine.specs.declared.call.Call.TheVariants as call
 use Rattle.osal_machine.specs.Parts.{queue_step}
-use Rattle.osal_machine.proofs.Moves.{IsMove, either, stays, changes}
+use Rattle.osal_machine.proofs.Moves.{IsMove, either, stays, changes, abandon_moves}
 
 module _ (queues : QueueState) where
   -- a step of the part makes one move
@@ -77,10 +76,6 @@ module _ (queues : QueueState) where
   end_moves task now None = stays queues.objects
   end_moves task now (Some wait) = got_from_moves task now wait (queue_at queues wait.what)
 
-  abandon_moves : (task : ℕ) (found : Option (WaitRecord ℕ)) → IsMove queues.objects (abandoned queues.objects task found).1
-  abandon_moves task None = stays queues.objects
-  abandon_moves task (Some wait) = changes queues.objects (End task) tt
-
   -- a call of the part makes one move
   pub queue_moves : (task : ℕ) (now : Moment) (made : Call) → Moves (queue_step queues task now made)
   queue_moves task now (call.QueueCreate name depth size) = create_moves task name.bytes depth size (name_fault name.bytes)
@@ -90,5 +85,5 @@ module _ (queues : QueueState) where
   queue_moves task now (call.Hold id) = changes queues.objects (Hold id) tt
   queue_moves task now (call.Release id) = changes queues.objects (Release id) tt
   queue_moves task now (call.WaitEnd part) = end_moves task now (wait_of queues.objects.waits task)
-  queue_moves task now (call.WaitAbandon part) = abandon_moves task (wait_of queues.objects.waits task)
+  queue_moves task now (call.WaitAbandon part) = abandon_moves queues.objects task (wait_of queues.objects.waits task)
   queue_moves task now other = stays queues.objects

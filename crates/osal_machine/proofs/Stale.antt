@@ -1,7 +1,8 @@
 -- A call on an identifier that is not active is refused by that.
-use Rattle.std.proofs.Common.{◌≡◌, ◌==◌, ℕ, List, length, false, Option, Some, None, is_some, nat_lt, refl, ap, ◌∙◌}
+use Rattle.std.proofs.Common.{◌≡◌, ◌==◌, ◌&&◌, ℕ, List, length, true, false, cond, Option, Some, None, is_some, nat_lt, refl, ap, ◌∙◌}
 use Rattle.osal_base.specs.declared.status.Status.TheVariants as status
 use Rattle.osal_base.specs.declared.time.Moment.{Moment}
+use Rattle.osal_base.specs.Name.{name_fault}
 use Rattle.osal_base.specs.Reply.{Replied, refusal}
 use Rattle.osal_idtable.specs.Table.{Active, TableState, active_at}
 use Rattle.osal_idtable.specs.Steps.{take_out, unheld}
@@ -18,6 +19,10 @@ use Rattle.osal_sem.specs.Counting as of_counts
 use Rattle.osal_sem.specs.Binary as of_sems
 use Rattle.osal_mutex.specs.Mutexes as of_mutexes
 use Rattle.osal_condvar.specs.Condvars as of_condvars
+use Rattle.osal_time.specs.declared.timer.Timer.{Timer}
+use Rattle.osal_time.specs.Time.{TimeState, timebase_at, timer_at, is_timer, is_active}
+use Rattle.osal_time.specs.Ticks as of_timebases
+use Rattle.osal_time.specs.Timers as of_timers
 use Rattle.osal_machine.specs.declared.call.Call.{Call}
 use Rattle.osal_machine.specs.declared.call.Call.TheVariants as call
 use Rattle.osal_machine.specs.Call.{part_of_id}
@@ -51,6 +56,16 @@ module _ {T W : Type 0} (objects : ObjectsState T W) (id : ℕ) (none : active_a
   stale_release : IsStale (release_call_step objects id).0
   stale_release = ap (λ (o : Option (Active T)). (released_by_caller objects id o).0) none
 
+-- a step of the timers or of the timebases, by the type of its identifier
+stale_by_type : (time : TimeState) (other id : ℕ) (of_timers of_timebases : Replied × TimeState) → Some other ≡ Some id → (timer_at time other ≡ None → IsStale of_timers.0) → (timebase_at time other ≡ None → IsStale of_timebases.0) → is_active time id ≡ false → IsStale (cond (is_timer other) of_timers of_timebases).0
+stale_by_type time other id of_timers of_timebases same as_timer as_timebase none =
+    let is : other ≡ id = cc in
+    let gone : is_active time other ≡ false = ap (is_active time) is ∙ none in
+    elim (is_timer other) as (λ timer. cond timer (is_some (timer_at time other)) (is_some (timebase_at time other)) ≡ false → IsStale (cond timer of_timers of_timebases).0) [
+      | true ↦ λ at. as_timer (none_of (timer_at time other) at)
+      | false ↦ λ at. as_timebase (none_of (timebase_at time other) at)
+    ] gone
+
 -- a hold of an identifier that is not active
 stale_hold_in : (part : PartState) (task : ℕ) (now : Moment) (other id : ℕ) → Some other ≡ Some id → is_active_in part id ≡ false → IsStale (part_step part task now (call.Hold other)).0
 stale_hold_in (Tasks tasks) task now other id same none =
@@ -65,7 +80,8 @@ stale_hold_in (Mutexes mutexes) task now other id same none =
     stale_hold mutexes.objects other (nothing_at mutexes.objects.table other id same none)
 stale_hold_in (Condvars condvars) task now other id same none =
     stale_hold condvars.objects other (nothing_at condvars.objects.table other id same none)
-stale_hold_in (Time time) task now other id same none = refl
+stale_hold_in (Time time) task now other id same none =
+    stale_by_type time other id _ _ same (λ at. stale_hold time.timers other at) (λ at. stale_hold time.timebases other at) none
 stale_hold_in Absent task now other id same none = refl
 
 -- a release of an identifier that is not active
@@ -82,7 +98,8 @@ stale_release_in (Mutexes mutexes) task now other id same none =
     stale_release mutexes.objects other (nothing_at mutexes.objects.table other id same none)
 stale_release_in (Condvars condvars) task now other id same none =
     stale_release condvars.objects other (nothing_at condvars.objects.table other id same none)
-stale_release_in (Time time) task now other id same none = refl
+stale_release_in (Time time) task now other id same none =
+    stale_by_type time other id _ _ same (λ at. stale_release time.timers other at) (λ at. stale_release time.timebases other at) none
 stale_release_in Absent task now other id same none = refl
 
 -- a priority that may be
@@ -92,6 +109,18 @@ stale_priority tasks id priority may none = rw (may, none)
 -- a message that has bytes
 stale_put : (queues : QueueState) (id : ℕ) (message : List ℕ) → length message == 0 ≡ false → of_queues.queue_at queues id ≡ None → IsStale (of_queues.queue_put_step queues id message).0
 stale_put queues id message may none = rw (may, none)
+
+-- a tick of some microseconds
+stale_tick : (time : TimeState) (id usecs : ℕ) → usecs == 0 ≡ false → timebase_at time id ≡ None → IsStale (of_timebases.timebase_tick_step time id usecs).0
+stale_tick time id usecs may none = rw (may, none)
+
+-- a timer under a name that may be
+stale_add : (time : TimeState) (name : List ℕ) (id handler : ℕ) → is_some (name_fault name) ≡ false → timebase_at time id ≡ None → IsStale (of_timers.timer_add_step time name id handler).0
+stale_add time name id handler may none = rw (none_of (name_fault name) may, none)
+
+-- a setting that is not 0
+stale_set : (time : TimeState) (id start interval : ℕ) → ((start == 0) && (interval == 0)) ≡ false → timer_at time id ≡ None → IsStale (of_timers.timer_set_step time id start interval).0
+stale_set time id start interval may none = rw (may, none)
 
 stale_step : (state : MachineState) (task : ℕ) (now : Moment) (made : Call) (id : ℕ) → subject_of task made ≡ Some id → is_active_for state made id ≡ false → is_refused_before made ≡ false → IsStale (step state task now made).0
 stale_step state task now call.TaskExit id same none may =
@@ -150,6 +179,20 @@ stale_step state task now (call.CondvarWait other wait) id same none may =
     ap (λ o. (of_condvars.wait_on state.condvars task now other wait o).0) (nothing_at state.condvars.objects.table other id same none)
 stale_step state task now (call.CondvarDelete other) id same none may =
     ap (λ o. (of_condvars.delete_free state.condvars other o).0) (nothing_at state.condvars.objects.table other id same none)
+stale_step state task now (call.TimebaseTick other usecs) id same none may =
+    stale_tick state.time other usecs may (nothing_at state.time.timebases.table other id same none)
+stale_step state task now (call.TimebaseFreeRun other) id same none may =
+    ap of_timebases.run_of (nothing_at state.time.timebases.table other id same none)
+stale_step state task now (call.TimebaseDelete other) id same none may =
+    ap (λ o. (of_timebases.delete_bare state.time other o).0) (nothing_at state.time.timebases.table other id same none)
+stale_step state task now (call.TimerAdd name timebase handler) id same none may =
+    stale_add state.time name.bytes timebase handler may (nothing_at state.time.timebases.table timebase id same none)
+stale_step state task now (call.TimerSet other start interval) id same none may =
+    stale_set state.time other start interval may (nothing_at state.time.timers.table other id same none)
+stale_step state task now (call.TimerDelete other) id same none may =
+    ap (λ o. (of_timers.delete_timer state.time other o).0) (nothing_at state.time.timers.table other id same none)
+stale_step state task now (call.TimerInfo other) id same none may =
+    ap (info_reply (λ (timer : Timer). of_timers.setting_number timer.setting)) (nothing_at state.time.timers.table other id same none)
 stale_step state task now (call.Hold other) id same none may =
     stale_hold_in (part_in (part_of_id other) state) task now other id same none
 stale_step state task now (call.Release other) id same none may =

@@ -12,7 +12,6 @@ use Rattle.osal_idtable.specs.Table.{Active}
 use Rattle.osal_idtable.specs.Holds.{is_held}
 use Rattle.osal_idtable.specs.Faults.{unless}
 use Rattle.osal_idtable.specs.Waits.{wait_of, is_due, new_wait}
-use Rattle.osal_idtable.specs.Waiting.{abandoned}
 use Rattle.osal_idtable.specs.Objects.{create_step, delete_step}
 use Rattle.osal_idtable.specs.Moves.{Put, Hold, Release, Begin, End, Create, Remove}
 use Rattle.osal_task.specs.declared.part.Task.{Task}
@@ -23,7 +22,7 @@ use Rattle.osal_machine.specs.declared.call.Call.{Call}
 use Rattle.osal_machine.specs.declared.call.Call.TheVariants as call
 use Rattle.osal_machine.specs.Parts.{task_step}
 use Rattle.osal_idtable.proofs.Activity.{Alike}
-use Rattle.osal_machine.proofs.Moves.{IsMove, AreChanges, either, stays, by_changes, unchanged, one_change, changes_leave}
+use Rattle.osal_machine.proofs.Moves.{IsMove, AreChanges, either, stays, by_changes, unchanged, one_change, changes_leave, abandon_changes}
 
 -- whether a call may make a task active, or remove one
 abbrev pub moves_tasks : Call → Bool
@@ -88,13 +87,9 @@ module _ (tasks : TaskState) where
   end_alters task now part =
       either Alters (part == 0) _ _ (delayed_alters task now (wait_of tasks.objects.waits task)) (unchanged tasks.objects)
 
-  given_up_alters : (task : ℕ) (found : Option (WaitRecord (Unit {0}))) → AreChanges tasks.objects (abandoned tasks.objects task found).1
-  given_up_alters task None = unchanged tasks.objects
-  given_up_alters task (Some wait) = one_change tasks.objects (End task) tt
-
   abandon_alters : (task part : ℕ) → Alters (of_delays.wait_abandon_step tasks task part)
   abandon_alters task part =
-      either Alters (part == 0) _ _ (given_up_alters task (wait_of tasks.objects.waits task)) (unchanged tasks.objects)
+      either Alters (part == 0) _ _ (abandon_changes tasks.objects task (wait_of tasks.objects.waits task)) (unchanged tasks.objects)
 
   -- a call that creates no task and removes none makes changes
   pub task_changes : (task : ℕ) (now : Moment) (made : Call) → moves_tasks made ≡ false → Alters (task_step tasks task now made)

@@ -1,10 +1,17 @@
 -- What holds of every history of the machine.
-use Rattle.std.specs.Prelude.{◌≡◌, ◌≢◌, ◌==◌, ◌<◌, ◌-◌, ◌^◌, ◌++◌, ℕ, List, [], ◌∷◌, Bool, true, false, Option, Some, None, length, nat_lt}
+use Rattle.std.specs.Prelude.{◌≡◌, ◌≢◌, ◌==◌, ◌&&◌, ◌<◌, ◌≤◌, ◌-◌, ◌*◌, ◌^◌, ◌++◌, ℕ, List, [], ◌∷◌, Bool, true, false, not, Option, Some, None, is_some, length, min, nat_lt, pos, if◌then◌else◌}
+use Rattle.std.specs.Ordering.{int_eq}
 use Rattle.osal_base.specs.declared.limits.Limits.{Limits}
+use Rattle.osal_base.specs.declared.reply.Answer.{Answer}
+use Rattle.osal_base.specs.declared.reply.Answer.TheVariants as answer
 use Rattle.osal_base.specs.declared.status.Status.TheVariants as status
 use Rattle.osal_base.specs.declared.time.Moment.{Moment}
-use Rattle.osal_base.specs.Reply.{reply_of, refusal, deleted}
+use Rattle.osal_base.specs.Limits.{Fits}
+use Rattle.osal_base.specs.Name.{name_fault}
+use Rattle.osal_base.specs.Reply.{reply_of, refusal, deleted, is_waits}
 use Rattle.osal_idtable.specs.Table.{Active}
+use Rattle.osal_idtable.specs.WellFormed.{IsWellFormed}
+use Rattle.osal_idtable.specs.ObjectLaws.{IsCounted}
 use Rattle.osal_task.specs.declared.part.Task.{Task}
 use Rattle.osal_task.specs.Tasks.{task_at, lowest_priority}
 use Rattle.osal_queue.specs.Queues.{queue_at}
@@ -12,6 +19,8 @@ use Rattle.osal_sem.specs.Counting.{count_sem_at}
 use Rattle.osal_sem.specs.Binary.{bin_sem_at}
 use Rattle.osal_mutex.specs.Mutexes.{mutex_at}
 use Rattle.osal_condvar.specs.Condvars.{condvar_at}
+use Rattle.osal_time.specs.Timebase.{timer_limit}
+use Rattle.osal_time.specs.Time.{timebase_at, timer_at, is_timer}
 use Rattle.osal_machine.specs.declared.call.Call.{Call}
 use Rattle.osal_machine.specs.declared.call.Call.TheVariants as call
 use Rattle.osal_machine.specs.declared.call.Entry.{Entry}
@@ -50,6 +59,13 @@ subject_of task (call.CondvarSignal id) = Some id
 subject_of task (call.CondvarBroadcast id) = Some id
 subject_of task (call.CondvarWait id wait) = Some id
 subject_of task (call.CondvarDelete id) = Some id
+subject_of task (call.TimebaseTick id usecs) = Some id
+subject_of task (call.TimebaseFreeRun id) = Some id
+subject_of task (call.TimebaseDelete id) = Some id
+subject_of task (call.TimerAdd name timebase handler) = Some timebase
+subject_of task (call.TimerSet id start interval) = Some id
+subject_of task (call.TimerDelete id) = Some id
+subject_of task (call.TimerInfo id) = Some id
 subject_of task (call.Hold id) = Some id
 subject_of task (call.Release id) = Some id
 subject_of task other = None
@@ -58,10 +74,21 @@ subject_of task other = None
 abbrev pub is_refused_before : Call → Bool
 is_refused_before (call.TaskSetPriority id priority) = nat_lt lowest_priority priority
 is_refused_before (call.QueuePut id payload) = length payload.bytes == 0
+is_refused_before (call.TimebaseTick id usecs) = usecs == 0
+is_refused_before (call.TimerAdd name timebase handler) = is_some (name_fault name.bytes)
+is_refused_before (call.TimerSet id start interval) = (start == 0) && (interval == 0)
 is_refused_before other = false
 
--- whether an entry's call is on an identifier that is active in the part of the call
+-- whether an identifier is active among the objects that a call is on: those of the call's part, and in the time part
+-- the timebases or the timers
 abbrev pub is_active_for : MachineState → Call → ℕ → Bool
+is_active_for state (call.TimebaseTick other usecs) id = is_some (timebase_at state.time id)
+is_active_for state (call.TimebaseFreeRun other) id = is_some (timebase_at state.time id)
+is_active_for state (call.TimebaseDelete other) id = is_some (timebase_at state.time id)
+is_active_for state (call.TimerAdd name timebase handler) id = is_some (timebase_at state.time id)
+is_active_for state (call.TimerSet other start interval) id = is_some (timer_at state.time id)
+is_active_for state (call.TimerDelete other) id = is_some (timer_at state.time id)
+is_active_for state (call.TimerInfo other) id = is_some (timer_at state.time id)
 is_active_for state made id = is_active_in (part_in (part_of made) state) id
 
 -- an entry on an identifier that is not active is refused by that, where nothing refuses it before
@@ -74,20 +101,20 @@ StaleIdentifiersAreRefused =
     → is_refused_before entry.call ≡ false
     → reply_of entry.reply ≡ refusal status.ErrInvalidId
 
--- the wrap count of a part's table of objects; a part without one has none
-abbrev pub wraps_in : PartState → ℕ
-wraps_in (Tasks tasks) = tasks.objects.table.wraps
-wraps_in (Queues queues) = queues.objects.table.wraps
-wraps_in (CountSems sems) = sems.objects.table.wraps
-wraps_in (BinSems sems) = sems.objects.table.wraps
-wraps_in (Mutexes mutexes) = mutexes.objects.table.wraps
-wraps_in (Condvars condvars) = condvars.objects.table.wraps
-wraps_in (Time time) = 0
-wraps_in Absent = 0
+-- the wrap count of an identifier's table of objects in a part; a part without one has none
+abbrev pub wraps_in : PartState → ℕ → ℕ
+wraps_in (Tasks tasks) id = tasks.objects.table.wraps
+wraps_in (Queues queues) id = queues.objects.table.wraps
+wraps_in (CountSems sems) id = sems.objects.table.wraps
+wraps_in (BinSems sems) id = sems.objects.table.wraps
+wraps_in (Mutexes mutexes) id = mutexes.objects.table.wraps
+wraps_in (Condvars condvars) id = condvars.objects.table.wraps
+wraps_in (Time time) id = if is_timer id then time.timers.table.wraps else time.timebases.table.wraps
+wraps_in Absent id = 0
 
 -- the wrap count of an identifier's type
 abbrev pub wraps_of : MachineState → ℕ → ℕ
-wraps_of state id = wraps_in (part_in (part_of_id id) state)
+wraps_of state id = wraps_in (part_in (part_of_id id) state) id
 
 -- an entry after some others makes an identifier active
 pub record MakesActive (limits : Limits) (before : List Entry) (entry : Entry) (id : ℕ) : Type 0 where
@@ -116,7 +143,7 @@ holds_in (CountSems sems) id = holds_of (count_sem_at sems id)
 holds_in (BinSems sems) id = holds_of (bin_sem_at sems id)
 holds_in (Mutexes mutexes) id = holds_of (mutex_at mutexes id)
 holds_in (Condvars condvars) id = holds_of (condvar_at condvars id)
-holds_in (Time time) id = 0
+holds_in (Time time) id = if is_timer id then holds_of (timer_at time id) else holds_of (timebase_at time id)
 holds_in Absent id = 0
 
 -- an entry that makes an identifier not active found no holds on it
@@ -126,6 +153,69 @@ HeldObjectsAreKept =
     → is_active (replay limits before) id ≡ true
     → is_active (replay limits (before ++ entry ∷ [])) id ≡ false
     → holds_in (part_in (part_of_id id) (replay limits before)) id ≡ 0
+
+-- whether an answer is a refusal: a code other than success
+abbrev pub is_refusal : Answer → Bool
+is_refusal (answer.Code code) = not (int_eq code (pos 0))
+is_refusal answer.Waits = false
+is_refusal answer.Go = false
+is_refusal answer.Deleted = false
+
+-- whether a call is the end of a wait
+abbrev pub is_wait_end : Call → Bool
+is_wait_end (call.WaitEnd part) = true
+is_wait_end other = false
+
+-- a refused call changes nothing; the end of a wait is no such call, since a wait that is due ends with a code
+abbrev pub RefusedCallsChangeNothing : Type 0
+RefusedCallsChangeNothing =
+    (state : MachineState) (task : ℕ) (now : Moment) (made : Call)
+    → is_wait_end made ≡ false
+    → is_refusal (step state task now made).0.answer ≡ true
+    → (step state task now made).1 ≡ state
+
+-- the end of a wait that waits on changes nothing
+abbrev pub EndsThatWaitChangeNothing : Type 0
+EndsThatWaitChangeNothing =
+    (state : MachineState) (task : ℕ) (now : Moment) (part : ℕ)
+    → is_waits (step state task now (call.WaitEnd part)).0.answer ≡ true
+    → (step state task now (call.WaitEnd part)).1 ≡ state
+
+-- the holds of each part's objects are those of callers and the open waits that stand on them
+pub record AreCounted (state : MachineState) : Type 0 where
+  pub tasks : IsCounted state.tasks.objects
+  pub queues : IsCounted state.queues.objects
+  pub count_sems : IsCounted state.count_sems.objects
+  pub bin_sems : IsCounted state.bin_sems.objects
+  pub mutexes : IsCounted state.mutexes.objects
+  pub condvars : IsCounted state.condvars.objects
+  pub timebases : IsCounted state.time.timebases
+  pub timers : IsCounted state.time.timers
+
+-- in every state of the machine the holds of an object are those of callers and the open waits that stand on it
+abbrev pub ObjectsAreCounted : Type 0
+ObjectsAreCounted =
+    (limits : Limits) (entries : List Entry)
+    → Fits limits
+    → AreCounted (replay limits entries)
+
+-- the table of each part's objects is well formed
+pub record AreWellFormed (state : MachineState) : Type 0 where
+  pub tasks : IsWellFormed state.tasks.objects.table
+  pub queues : IsWellFormed state.queues.objects.table
+  pub count_sems : IsWellFormed state.count_sems.objects.table
+  pub bin_sems : IsWellFormed state.bin_sems.objects.table
+  pub mutexes : IsWellFormed state.mutexes.objects.table
+  pub condvars : IsWellFormed state.condvars.objects.table
+  pub timebases : IsWellFormed state.time.timebases.table
+  pub timers : IsWellFormed state.time.timers.table
+
+-- in every state of the machine the tables are well formed
+abbrev pub TablesAreWellFormed : Type 0
+TablesAreWellFormed =
+    (limits : Limits) (entries : List Entry)
+    → Fits limits
+    → AreWellFormed (replay limits entries)
 
 -- a call changes its own part alone
 abbrev pub CallsChangeTheirPart : Type 0
@@ -156,3 +246,12 @@ DeletedTasksAreGone =
     → entry.call ≡ call.Checkpoint
     → reply_of entry.reply ≡ deleted
     → task_at (replay limits (before ++ entry ∷ [])).tasks entry.task ≡ None
+
+-- a tick tells of no more timers, in twelve bytes each, than a timebase may have, nor than there may be
+abbrev pub TicksFireFew : Type 0
+TicksFireFew =
+    (limits : Limits) (before : List Entry) (entry : Entry) (id usecs : ℕ)
+    → Fits limits
+    → IsLegal limits (before ++ entry ∷ [])
+    → entry.call ≡ call.TimebaseTick id usecs
+    → length entry.reply.bytes.bytes ≤ 12 * min timer_limit limits.timers

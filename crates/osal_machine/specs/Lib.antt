@@ -7,8 +7,10 @@ pub use Rattle.osal_sem.specs.Counting
 pub use Rattle.osal_sem.specs.Binary
 pub use Rattle.osal_mutex.specs.Mutexes
 pub use Rattle.osal_condvar.specs.Condvars
+pub use Rattle.osal_time.specs.Time
+pub use Rattle.osal_time.specs.Ticks
+pub use Rattle.osal_time.specs.Timers
 pub mod Call
-pub mod Time
 pub mod Parts
 pub mod Step
 pub mod OpenWaits

@@ -16,7 +16,10 @@ use Rattle.osal_mutex.specs.Mutexes as of_mutexes
 use Rattle.osal_mutex.specs.Mutexes.{MutexState, mutex_at}
 use Rattle.osal_condvar.specs.Condvars as of_condvars
 use Rattle.osal_condvar.specs.Condvars.{CondvarState, condvar_at}
-use Rattle.osal_machine.specs.Time.{TimeState, advance_step}
+use Rattle.osal_time.specs.Time as of_time
+use Rattle.osal_time.specs.Time.{TimeState}
+use Rattle.osal_time.specs.Ticks as of_timebases
+use Rattle.osal_time.specs.Timers as of_timers
 use Rattle.osal_machine.specs.declared.call.Call.{Call}
 use Rattle.osal_machine.specs.declared.call.Call.TheVariants as call
 
@@ -128,9 +131,21 @@ condvar_step condvars task now (call.WaitEnd part) = of_condvars.wait_end_step c
 condvar_step condvars task now (call.WaitAbandon part) = of_condvars.wait_abandon_step condvars task
 condvar_step condvars task now other = (absent_reply other, condvars)
 
--- the calls of the time part
+-- the calls of the time part: none of them waits
 abbrev pub time_step : TimeState → Call → Replied × TimeState
-time_step time (call.Advance to) = advance_step time to
+time_step time (call.TimebaseCreate name) = of_timebases.timebase_create_step time name.bytes
+time_step time (call.TimebaseTick id usecs) = of_timebases.timebase_tick_step time id usecs
+time_step time (call.TimebaseFreeRun id) = of_timebases.timebase_free_run_step time id
+time_step time (call.TimebaseDelete id) = of_timebases.timebase_delete_step time id
+time_step time (call.TimebaseFind name) = of_timebases.timebase_find_step time name.bytes
+time_step time (call.TimerAdd name timebase handler) = of_timers.timer_add_step time name.bytes timebase handler
+time_step time (call.TimerSet id start interval) = of_timers.timer_set_step time id start interval
+time_step time (call.TimerDelete id) = of_timers.timer_delete_step time id
+time_step time (call.TimerFind name) = of_timers.timer_find_step time name.bytes
+time_step time (call.TimerInfo id) = of_timers.timer_info_step time id
+time_step time (call.Advance to) = of_time.advance_step time to
+time_step time (call.Hold id) = of_time.hold_step time id
+time_step time (call.Release id) = of_time.release_step time id
 time_step time other = (absent_reply other, time)
 
 -- a part's call changes that part
@@ -156,7 +171,7 @@ is_active_in (CountSems sems) id = is_some (count_sem_at sems id)
 is_active_in (BinSems sems) id = is_some (bin_sem_at sems id)
 is_active_in (Mutexes mutexes) id = is_some (mutex_at mutexes id)
 is_active_in (Condvars condvars) id = is_some (condvar_at condvars id)
-is_active_in (Time time) id = false
+is_active_in (Time time) id = of_time.is_active time id
 is_active_in Absent id = false
 
 -- whether a task is active in a part and not marked for deletion: only the task part has tasks

@@ -9,8 +9,8 @@ use Rattle.osal_sem.specs.Counting.{CountSemState, no_count_sems}
 use Rattle.osal_sem.specs.Binary.{BinSemState, no_bin_sems}
 use Rattle.osal_mutex.specs.Mutexes.{MutexState, no_mutexes}
 use Rattle.osal_condvar.specs.Condvars.{CondvarState, no_condvars}
+use Rattle.osal_time.specs.Time.{TimeState, time_start}
 use Rattle.osal_machine.specs.Call.{part_of, part_of_id}
-use Rattle.osal_machine.specs.Time.{TimeState, time_start}
 use Rattle.osal_machine.specs.Parts.{PartState, Tasks, Queues, CountSems, BinSems, Mutexes, Condvars, Time, Absent, part_step, is_active_in}
 use Rattle.osal_machine.specs.declared.call.Call.{Call}
 use Rattle.osal_machine.specs.declared.call.Call.TheVariants as call
@@ -34,7 +34,7 @@ opening limits = record {
   bin_sems = no_bin_sems limits;
   mutexes = no_mutexes limits;
   condvars = no_condvars limits;
-  time = time_start;
+  time = time_start limits;
 }
 
 -- the part of that number

@@ -1,16 +1,17 @@
 //! A part of any kind.
 ghost use Rattle.std.specs.Prelude.{◌≡◌, false, IsTrue, IsOk, IfOk, OnErr};
-ghost use Rattle.osal_base.specs.Reply.{replied};
+ghost use Rattle.osal_base.specs.Reply.{replied, success};
 ghost use Rattle.osal_machine.specs.Call.{takes_memory};
 ghost use Rattle.osal_machine.specs.AnyPart.{view_of_any};
 
-use crate::{Call, Part, TimePart};
+use crate::{Call, Part};
 use osal_base::{Ack, Moment, OsalId, OutOfMemory, Room};
 use osal_condvar::CondvarPart;
 use osal_mutex::MutexPart;
 use osal_queue::QueuePart;
 use osal_sem::{BinSemPart, CountSemPart};
 use osal_task::TaskPart;
+use osal_time::TimePart;
 use std::alloc::Global;
 
 /// One of the parts.

@@ -181,6 +181,51 @@ pub enum Call {
     CondvarFind {
         name: Bytes,
     },
+    /// `OS_TimeBaseCreate`.
+    TimebaseCreate {
+        name: Bytes,
+    },
+    /// The external tick of a timebase.
+    TimebaseTick {
+        id: OsalId,
+        usecs: u32,
+    },
+    /// `OS_TimeBaseGetFreeRun`.
+    TimebaseFreeRun {
+        id: OsalId,
+    },
+    /// `OS_TimeBaseDelete`.
+    TimebaseDelete {
+        id: OsalId,
+    },
+    /// `OS_TimeBaseGetIdByName`.
+    TimebaseFind {
+        name: Bytes,
+    },
+    /// `OS_TimerAdd`, with the number of the handler that its firings tell.
+    TimerAdd {
+        name: Bytes,
+        timebase: OsalId,
+        handler: u32,
+    },
+    /// `OS_TimerSet`, in microseconds.
+    TimerSet {
+        id: OsalId,
+        start: u32,
+        interval: u32,
+    },
+    /// `OS_TimerDelete`.
+    TimerDelete {
+        id: OsalId,
+    },
+    /// `OS_TimerGetIdByName`.
+    TimerFind {
+        name: Bytes,
+    },
+    /// `OS_TimerGetInfo`.
+    TimerInfo {
+        id: OsalId,
+    },
     /// Virtual time goes on to a later moment, in milliseconds.
     Advance {
         to: u64,
@@ -288,7 +333,17 @@ pub fn part_of(call: &Call) -> u32
         | Call::CondvarWait { .. }
         | Call::CondvarDelete { .. }
         | Call::CondvarFind { .. } => 5,
-        Call::Advance { .. } => 6,
+        Call::TimebaseCreate { .. }
+        | Call::TimebaseTick { .. }
+        | Call::TimebaseFreeRun { .. }
+        | Call::TimebaseDelete { .. }
+        | Call::TimebaseFind { .. }
+        | Call::TimerAdd { .. }
+        | Call::TimerSet { .. }
+        | Call::TimerDelete { .. }
+        | Call::TimerFind { .. }
+        | Call::TimerInfo { .. }
+        | Call::Advance { .. } => 6,
         Call::Hold { id } | Call::Release { id } => part_of_id(*id),
         Call::WaitEnd { part } | Call::WaitAbandon { part } => { if 8 < *part { 0 } else { *part } }
     }

@@ -1,6 +1,6 @@
 //! What holds of every history of the machine, as clauses of functions that do nothing.
 ghost use Rattle.osal_machine.specs.QueueLaw.{QueuesKeepTheirOrder};
-ghost use Rattle.osal_machine.specs.Laws.{StaleIdentifiersAreRefused, WrapCountRises, HeldObjectsAreKept, CallsChangeTheirPart, PartsReplayAlone, MarkedTasksAreUnheld, DeletedTasksAreGone};
+ghost use Rattle.osal_machine.specs.Laws.{StaleIdentifiersAreRefused, WrapCountRises, HeldObjectsAreKept, RefusedCallsChangeNothing, EndsThatWaitChangeNothing, ObjectsAreCounted, TablesAreWellFormed, CallsChangeTheirPart, PartsReplayAlone, MarkedTasksAreUnheld, DeletedTasksAreGone, TicksFireFew};
 
 /// An entry on an identifier that is not active is refused by that, where nothing refuses it before.
 pub fn stale_identifiers_are_refused()
@@ -15,6 +15,26 @@ pub fn wrap_count_rises()
 /// An entry that makes an identifier not active found no holds on it.
 pub fn held_objects_are_kept()
     ensures { HeldObjectsAreKept }
+{}
+
+/// A refused call changes nothing.
+pub fn refused_calls_change_nothing()
+    ensures { RefusedCallsChangeNothing }
+{}
+
+/// The end of a wait that waits on changes nothing.
+pub fn ends_that_wait_change_nothing()
+    ensures { EndsThatWaitChangeNothing }
+{}
+
+/// The holds of an object are those of callers and the open waits that stand on it.
+pub fn objects_are_counted()
+    ensures { ObjectsAreCounted }
+{}
+
+/// The tables of the parts are well formed.
+pub fn tables_are_well_formed()
+    ensures { TablesAreWellFormed }
 {}
 
 /// A call changes its own part alone.
@@ -40,4 +60,9 @@ pub fn deleted_tasks_are_gone()
 /// The gets of a queue give the messages that it accepted, in order, each once; the rest is what it holds.
 pub fn queues_keep_their_order()
     ensures { QueuesKeepTheirOrder }
+{}
+
+/// A tick tells of no more timers, in twelve bytes each, than a timebase may have, nor than there may be.
+pub fn ticks_fire_few()
+    ensures { TicksFireFew }
 {}

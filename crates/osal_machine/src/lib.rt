@@ -9,12 +9,11 @@ mod part;
 mod parts;
 #[cfg(test)]
 mod tests;
-mod time;
 mod whole;
 
 pub use any::AnyPart;
 pub use call::{Call, Entry, part_of};
 pub use journal::Journal;
+pub use osal_time::TimePart;
 pub use part::Part;
-pub use time::TimePart;
 pub use whole::Whole;

@@ -1,7 +1,7 @@
 //! What the parts have in common.
 ghost use Rattle.std.specs.Prelude.{◌≡◌, false, IsTrue, IsOk, IfOk, OnErr};
 ghost use Rattle.osal_machine.specs.Call.{takes_memory};
-ghost use Rattle.osal_base.specs.Reply.{replied};
+ghost use Rattle.osal_base.specs.Reply.{replied, success};
 ghost use Rattle.osal_machine.specs.Views.{PartView, is_own, view_step, is_ready_in, is_active_at, goes_at};
 ghost use Rattle.osal_machine.specs.declared.call.Call.TheVariants.{WaitEnd};
 
@@ -16,7 +16,8 @@ pub trait Part {
 
     /// Makes a call that is the part's own. The bytes of the reply are left in the room.
     ///
-    /// Only the creation of a queue takes memory; where there is none, nothing changes.
+    /// Only the creation of a queue takes memory, which it asks for last: where there is none, nothing changes, and
+    /// nothing else would have refused the call.
     fn apply(
         &mut self,
         alloc: Global,
@@ -28,6 +29,7 @@ pub trait Part {
         requires { IsTrue (is_own (view self.old) call.now) }
         ensures step { IfOk result (λ ack. (replied ack room.new, view self.new) ≡ view_step (view self.old) task now call.now) }
         ensures kept { OnErr result (view self.new ≡ view self.old) }
+        ensures asked_last { OnErr result ((view_step (view self.old) task now call.now).0.answer ≡ success.answer) }
         ensures memory { takes_memory call.now ≡ false → IsOk result };
 
     /// Whether the end of a task's wait in the part of that number would not answer `Waits`.

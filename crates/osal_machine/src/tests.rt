@@ -1,14 +1,19 @@
 //! Which part each identifier and wait is of, and what the machine answers for each part.
 
-use crate::{AnyPart, Call, Entry, Journal, Part, TimePart, Whole, part_of};
-use osal_base::Status::{ErrIncorrectObjState, ErrInvalidId, Error};
+use crate::{AnyPart, Call, Entry, Journal, Part, Whole, part_of};
+use osal_base::Status::{ErrIncorrectObjState, ErrInvalidId, ErrObjectInUse, Error};
 use osal_base::{Answer, Bytes, Limits, Moment, OsalId, Reply, Room, Status};
 use osal_task::TaskPart;
+use osal_time::TimePart;
 use std::alloc::Global;
 use std::process::Abort;
 use std::test::Fail;
 
 const A: u32 = 0x0001_0001;
+
+const TIMEBASE: u32 = 0x0008_0001;
+
+const TIMER: u32 = 0x0009_0001;
 
 // Makes a call of the task A at the start, on the whole machine.
 fn made<R: Abort + AllocGlobal>(rt: &R, whole: &mut Whole, call: &Call) -> Result<Answer, Fail> {
@@ -54,17 +59,22 @@ fn an_identifier_is_of_the_part_of_its_type(rt: HostRuntime) {
     }
 }
 
-#[test]
-fn what_is_not_there_has_no_objects_and_no_waits(rt: HostRuntime) -> Result<(), Fail> {
-    let mut whole = Whole::open(rt.alloc(), &Limits::version1())?;
+// A machine without objects refuses each end of a wait and each hold. It is lent, as its drop is long.
+fn refuse_all<R: Abort + AllocGlobal>(rt: &R, whole: &mut Whole) -> Result<(), Fail> {
     for part in [1, 2, 3, 4, 5, 6, 7, 8, 9] {
-        let answer = made(&rt, &mut whole, &Call::WaitEnd { part })?;
+        let answer = made(rt, whole, &Call::WaitEnd { part })?;
         assert_eq!(rt; answer, refused(ErrIncorrectObjState), "part {part}");
         assert!(rt; whole.ready(OsalId::of_raw(A), Moment::START, part));
     }
-    for raw in [0x0002_0001, 0x0008_0001, 0x000d_0001, 0x000e_0001] {
+    for raw in [
+        0x0002_0001,
+        0x0008_0001,
+        0x0009_0001,
+        0x000d_0001,
+        0x000e_0001,
+    ] {
         let id = OsalId::of_raw(raw);
-        let answer = made(&rt, &mut whole, &Call::Hold { id })?;
+        let answer = made(rt, whole, &Call::Hold { id })?;
         assert_eq!(rt; answer, refused(ErrInvalidId), "{raw}");
         assert!(rt; !whole.active(id));
     }
@@ -72,8 +82,13 @@ fn what_is_not_there_has_no_objects_and_no_waits(rt: HostRuntime) -> Result<(), 
 }
 
 #[test]
-fn time_goes_on_to_a_later_moment_alone(rt: HostRuntime) -> Result<(), Fail> {
+fn what_is_not_there_has_no_objects_and_no_waits(rt: HostRuntime) -> Result<(), Fail> {
     let mut whole = Whole::open(rt.alloc(), &Limits::version1())?;
+    refuse_all(&rt, &mut whole)
+}
+
+// Time goes on to later moments, and to no other.
+fn go_on<R: Abort + AllocGlobal>(rt: &R, whole: &mut Whole) -> Result<(), Fail> {
     for (to, answer) in [
         (0, refused(Error)),
         (5, Answer::Code(0)),
@@ -82,14 +97,66 @@ fn time_goes_on_to_a_later_moment_alone(rt: HostRuntime) -> Result<(), Fail> {
         (u64::MAX, Answer::Code(0)),
         (u64::MAX, refused(Error)),
     ] {
-        assert_eq!(rt;
-            made(&rt, &mut whole, &Call::Advance { to })?,
-            answer,
-            "to {to}"
-        );
+        assert_eq!(rt; made(rt, whole, &Call::Advance { to })?, answer, "to {to}");
     }
     assert_eq!(rt; whole.moment(), Moment { ms: u64::MAX });
     Ok(())
+}
+
+#[test]
+fn time_goes_on_to_a_later_moment_alone(rt: HostRuntime) -> Result<(), Fail> {
+    let mut whole = Whole::open(rt.alloc(), &Limits::version1())?;
+    go_on(&rt, &mut whole)
+}
+
+// Makes a timebase, and a timer on it that expires after 1,000 microseconds and then after each 400.
+fn make_timer<R: Abort + AllocGlobal>(rt: &R, whole: &mut Whole) -> Result<(), Fail> {
+    let name = Bytes::copy(rt.alloc(), b"base")?;
+    made(rt, whole, &Call::TimebaseCreate { name })?;
+    let add = Call::TimerAdd {
+        name: Bytes::copy(rt.alloc(), b"timer")?,
+        timebase: OsalId::of_raw(TIMEBASE),
+        handler: 7,
+    };
+    made(rt, whole, &add)?;
+    let set = Call::TimerSet {
+        id: OsalId::of_raw(TIMER),
+        start: 1000,
+        interval: 400,
+    };
+    made(rt, whole, &set)?;
+    Ok(())
+}
+
+// A tick tells of the timer in its bytes, and a timer that was deleted is refused.
+fn tick<R: Abort + AllocGlobal>(rt: &R, whole: &mut Whole) -> Result<(), Fail> {
+    make_timer(rt, whole)?;
+    let id = OsalId::of_raw(TIMER);
+    assert!(rt; whole.active(id));
+    let base = OsalId::of_raw(TIMEBASE);
+    for (call, answer) in [
+        (
+            Call::TimebaseTick {
+                id: base,
+                usecs: 2000,
+            },
+            Answer::Code(0),
+        ),
+        (Call::TimebaseDelete { id: base }, refused(ErrObjectInUse)),
+        (Call::TimerDelete { id }, Answer::Code(0)),
+        (Call::TimerInfo { id }, refused(ErrInvalidId)),
+        (Call::Hold { id }, refused(ErrInvalidId)),
+    ] {
+        assert_eq!(rt; made(rt, whole, &call)?, answer);
+    }
+    assert!(rt; !whole.active(id));
+    Ok(())
+}
+
+#[test]
+fn a_timer_fires_and_is_deleted(rt: HostRuntime) -> Result<(), Fail> {
+    let mut whole = Whole::open(rt.alloc(), &Limits::version1())?;
+    tick(&rt, &mut whole)
 }
 
 // Whether a part of any kind has the task A, and whether it goes on there.
@@ -99,7 +166,8 @@ fn look<P: Part>(part: &P) -> (bool, bool) {
 
 #[test]
 fn a_part_alone_is_seen_as_the_machine_is(rt: HostRuntime) -> Result<(), Fail> {
-    assert_eq!(rt; look(&AnyPart::Time(TimePart::new())), (false, false));
+    let time = TimePart::open(rt.alloc(), &Limits::version1())?;
+    assert_eq!(rt; look(&AnyPart::Time(time)), (false, false));
     let tasks = TaskPart::open(rt.alloc(), &Limits::version1())?;
     assert_eq!(rt; look(&AnyPart::Task(tasks)), (false, false));
     Ok(())

@@ -1,7 +1,7 @@
 //! The machine of all parts under one hand.
 ghost use Rattle.std.specs.Prelude.{◌≡◌, false, IsOk, IfOk, OnErr};
 ghost use Rattle.osal_base.specs.Limits.{Fits};
-ghost use Rattle.osal_base.specs.Reply.{replied};
+ghost use Rattle.osal_base.specs.Reply.{replied, success};
 ghost use Rattle.osal_task.specs.Tasks.{goes};
 ghost use Rattle.osal_machine.specs.Call.{takes_memory};
 ghost use Rattle.osal_machine.specs.Step.{opening, step, is_ready, is_active};
@@ -10,7 +10,7 @@ ghost use Rattle.osal_machine.specs.Views.{All};
 
 use crate::call::part_of_id;
 use crate::parts::absent;
-use crate::{Call, Part, TimePart, part_of};
+use crate::{Call, Part, part_of};
 use osal_base::{Ack, Limits, Moment, OsalId, OutOfMemory, Room};
 use osal_condvar::CondvarPart;
 use osal_idtable::sooner;
@@ -18,6 +18,7 @@ use osal_mutex::MutexPart;
 use osal_queue::QueuePart;
 use osal_sem::{BinSemPart, CountSemPart};
 use osal_task::TaskPart;
+use osal_time::TimePart;
 use std::alloc::Global;
 use std::marker::Model;
 
@@ -60,13 +61,14 @@ impl Whole {
             bin_sems: BinSemPart::open(alloc, limits)?,
             mutexes: MutexPart::open(alloc, limits)?,
             condvars: CondvarPart::open(alloc, limits)?,
-            time: TimePart::new(),
+            time: TimePart::open(alloc, limits)?,
         })
     }
 
     /// Makes a call of a task: one step of the machine. The bytes of the reply are left in the room.
     ///
-    /// Only the creation of a queue takes memory; where there is none, nothing changes.
+    /// Only the creation of a queue takes memory, which it asks for last: where there is none, nothing changes, and
+    /// nothing else would have refused the call.
     pub fn apply(
         &mut self,
         alloc: Global,
@@ -77,6 +79,7 @@ impl Whole {
     ) -> Result<Ack, OutOfMemory>
         ensures step { IfOk result (λ ack. (replied ack room.new, self.new) ≡ step self.old task now call.now) }
         ensures kept { OnErr result (self.new ≡ self.old) }
+        ensures asked_last { OnErr result ((step self.old task now call.now).0.answer ≡ success.answer) }
         ensures memory { takes_memory call.now ≡ false → IsOk result }
     {
         match part_of(call) {
@@ -120,6 +123,7 @@ impl Whole {
             3 => self.bin_sems.active(id),
             4 => self.mutexes.active(id),
             5 => self.condvars.active(id),
+            6 => self.time.active(id),
             _ => false,
         }
     }

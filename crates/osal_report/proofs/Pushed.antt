@@ -55,7 +55,7 @@ same_draft by_script by_pass by_fail by_lines by_exits = cc
 -- the draft of a segment with one more entry
 pub draft_push : (segment : Segment) (entry : Entry) → draft_of (record segment { entries = segment.entries ++ entry ∷ [] }) ≡ noted (draft_of segment) entry
 draft_push segment entry =
-    let start = start_of segment.body in
+    let start = start_of segment.bodies segment.body in
     let front = cases_from start segment.entries in
     let one = case_by (script_in segment) entry in
     let cases = cases_push start segment.entries entry in

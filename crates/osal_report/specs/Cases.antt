@@ -137,4 +137,4 @@ cases_from state (entry ∷ entries) = case_by state entry ++ cases_from (after_
 
 -- the cases of a segment
 abbrev pub cases_of : Segment → List Case
-cases_of segment = cases_from (start_of segment.body) segment.entries
+cases_of segment = cases_from (start_of segment.bodies segment.body) segment.entries

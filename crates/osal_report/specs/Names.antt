@@ -14,6 +14,10 @@ use Rattle.osal_script.specs.declared.mutexes.MutexCall.{MutexCall}
 use Rattle.osal_script.specs.declared.mutexes.MutexCall.TheVariants as mutex
 use Rattle.osal_script.specs.declared.condvars.CondvarCall.{CondvarCall}
 use Rattle.osal_script.specs.declared.condvars.CondvarCall.TheVariants as condvar
+use Rattle.osal_script.specs.declared.timebases.TimebaseCall.{TimebaseCall}
+use Rattle.osal_script.specs.declared.timebases.TimebaseCall.TheVariants as timebase
+use Rattle.osal_script.specs.declared.timers.TimerCall.{TimerCall}
+use Rattle.osal_script.specs.declared.timers.TimerCall.TheVariants as timer
 
 -- the calls on tasks
 abbrev pub task_name : TaskCall → List ℕ
@@ -73,6 +77,22 @@ condvar_name (condvar.Wait id wait) = codes "condvar_wait"
 condvar_name (condvar.Delete id) = codes "condvar_delete"
 condvar_name (condvar.Find register name) = codes "condvar_find"
 
+-- the calls on timebases
+abbrev pub timebase_name : TimebaseCall → List ℕ
+timebase_name (timebase.Create register name) = codes "timebase_create"
+timebase_name (timebase.Tick id usecs) = codes "timebase_tick"
+timebase_name (timebase.FreeRun id) = codes "timebase_free_run"
+timebase_name (timebase.Delete id) = codes "timebase_delete"
+timebase_name (timebase.Find register name) = codes "timebase_find"
+
+-- the calls on timers
+abbrev pub timer_name : TimerCall → List ℕ
+timer_name (timer.Add register name id handler) = codes "timer_add"
+timer_name (timer.Set id start interval) = codes "timer_set"
+timer_name (timer.Delete id) = codes "timer_delete"
+timer_name (timer.Find register name) = codes "timer_find"
+timer_name (timer.Info id) = codes "timer_info"
+
 -- the name of a call
 abbrev pub call_name : ScriptCall → List ℕ
 call_name (script.Task call) = task_name call
@@ -81,5 +101,7 @@ call_name (script.CountSem call) = count_sem_name call
 call_name (script.BinSem call) = bin_sem_name call
 call_name (script.Mutex call) = mutex_name call
 call_name (script.Condvar call) = condvar_name call
+call_name (script.Timebase call) = timebase_name call
+call_name (script.Timer call) = timer_name call
 call_name (script.Hold id) = codes "hold"
 call_name (script.Release id) = codes "release"

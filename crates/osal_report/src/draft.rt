@@ -10,7 +10,7 @@ use crate::segment::{how, push_begin, push_end, push_stall};
 use crate::spelling::push_bytes;
 use osal_base::OutOfMemory;
 use osal_machine::Entry;
-use osal_script::{Body, Cursor};
+use osal_script::{App, Body, Cursor};
 use std::alloc::Global;
 use std::marker::Model;
 
@@ -72,13 +72,19 @@ impl<'a> Model for Draft<'a> {
 
 impl<'a> Draft<'a> {
     /// The draft of a task that was just created. It takes no memory.
-    pub(crate) fn new(alloc: Global, id: u64, name: &'a [u8], body: &'a Body) -> Draft<'a>
-        ensures { result ≡ draft_of (record { id = id; name = name.now; body = body.now; entries = [] }) }
+    pub(crate) fn new(
+        alloc: Global,
+        id: u64,
+        name: &'a [u8],
+        app: &'a App,
+        body: &'a Body,
+    ) -> Draft<'a>
+        ensures { result ≡ draft_of (record { id = id; name = name.now; bodies = app.now.bodies; body = body.now; entries = [] }) }
     {
         Draft {
             id,
             name,
-            cursor: Cursor::new(body),
+            cursor: Cursor::new(app, body),
             counts: Counts::NONE,
             lines: Vec::new(alloc),
             exits: false,

@@ -57,7 +57,7 @@ impl<'a> Drafts<'a> {
         };
         let id = entry.reply.number;
         self.newest.insert(id, self.list.len())?;
-        self.list.push(Draft::new(alloc, id, name, body))?;
+        self.list.push(Draft::new(alloc, id, name, app, body))?;
         Ok(())
     }
 }

@@ -78,6 +78,7 @@ pub(crate) fn begun<'a>(app: &'a App, entry: &'a Entry) -> Option<(&'a [u8], &'a
         (λ found. begun_by app.now entry.entry.now ≡ record {
           id = entry.entry.now.reply.number;
           name = found.0.now;
+          bodies = app.now.bodies;
           body = found.1.now;
           entries = [];
         } ∷ []) }

@@ -4,6 +4,7 @@ ghost use Rattle.osal_report.specs.Names as names;
 
 use osal_script::{
     BinSemCall, CondvarCall, CountSemCall, MutexCall, QueueCall, ScriptCall, TaskCall,
+    TimebaseCall, TimerCall,
 };
 
 /// The name of a call.
@@ -17,6 +18,8 @@ pub(crate) fn call_name(call: &ScriptCall) -> &'static [u8]
         ScriptCall::BinSem(call) => bin_sem_name(call),
         ScriptCall::Mutex(call) => mutex_name(call),
         ScriptCall::Condvar(call) => condvar_name(call),
+        ScriptCall::Timebase(call) => timebase_name(call),
+        ScriptCall::Timer(call) => timer_name(call),
         ScriptCall::Hold { .. } => b"hold",
         ScriptCall::Release { .. } => b"release",
     }
@@ -86,6 +89,30 @@ fn mutex_name(call: &MutexCall) -> &'static [u8]
         MutexCall::Delete { .. } => b"mut_sem_delete",
         MutexCall::Find { .. } => b"mut_sem_find",
         MutexCall::Info { .. } => b"mut_sem_info",
+    }
+}
+
+fn timebase_name(call: &TimebaseCall) -> &'static [u8]
+    ensures { result.now ≡ names.timebase_name call.now }
+{
+    match call {
+        TimebaseCall::Create { .. } => b"timebase_create",
+        TimebaseCall::Tick { .. } => b"timebase_tick",
+        TimebaseCall::FreeRun { .. } => b"timebase_free_run",
+        TimebaseCall::Delete { .. } => b"timebase_delete",
+        TimebaseCall::Find { .. } => b"timebase_find",
+    }
+}
+
+fn timer_name(call: &TimerCall) -> &'static [u8]
+    ensures { result.now ≡ names.timer_name call.now }
+{
+    match call {
+        TimerCall::Add { .. } => b"timer_add",
+        TimerCall::Set { .. } => b"timer_set",
+        TimerCall::Delete { .. } => b"timer_delete",
+        TimerCall::Find { .. } => b"timer_find",
+        TimerCall::Info { .. } => b"timer_info",
     }
 }
 

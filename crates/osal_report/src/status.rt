@@ -116,12 +116,12 @@ impl<'a> Reading<'a> {
 /// It reads them up to the script's end.
 fn end_of_task(app: &App, id: u64, body: &Body, entries: &[Entry]) -> End
     ensures stalled { result.stalled
-        ≡ is_stalled_phase (reached (start_of body.now) (entries_of app.now id entries.now)).phase }
+        ≡ is_stalled_phase (reached (start_of app.now.bodies body.now) (entries_of app.now id entries.now)).phase }
     ensures passes { not result.fails
-        ≡ (failed (cases_from (start_of body.now) (entries_of app.now id entries.now)) == 0) }
+        ≡ (failed (cases_from (start_of app.now.bodies body.now) (entries_of app.now id entries.now)) == 0) }
 {
     let mut reading = Reading {
-        cursor: Cursor::new(body),
+        cursor: Cursor::new(app, body),
         fails: false,
     };
     for entry in entries {

@@ -1,5 +1,6 @@
 ghost use Rattle.std.specs.Prelude.{◌≡◌, IfOk};
 ghost use Rattle.std.specs.List.{AllByRecursion};
+ghost use Rattle.osal_script.specs.declared.app.BodyKind.TheVariants as kind;
 ghost use Rattle.osal_script.specs.App.{NamesBetween, ItemNames};
 ghost use Rattle.osal_script.specs.Nesting.{IsNested};
 
@@ -98,7 +99,8 @@ fn start(alloc: Global, number: u32, expect: Option<Expect>) -> Result<Line, Out
 
 fn body<R: Abort>(rt: &R, name: &[u8], items: Vec<Item>) -> Body
     requires { IsNested items.items }
-    ensures { result.items ≡ items.items }
+    ensures items { result.items ≡ items.items }
+    ensures task { result.kind ≡ kind.Task }
 {
     let name = Name::new(name).expect(rt, "a name");
     Body::new(name, BodyKind::Task, items)

@@ -1,5 +1,5 @@
 -- What a run leaves behind once its tasks have settled.
-use Rattle.std.proofs.Common.{◌≡◌, ◌==◌, ◌++◌, ℕ, List, [], Bool, true, false, cond, inl, inr, Option, Some, None, refl, sym, ap, ◌∙◌, subst}
+use Rattle.std.proofs.Common.{◌≡◌, ◌==◌, ◌++◌, ℕ, List, Bool, true, false, cond, inl, inr, Option, Some, None, refl, sym, ap, ◌∙◌, subst}
 use Rattle.osal_base.specs.Causes.{WhereTold}
 use Rattle.osal_base.specs.Limits.{version1}
 use Rattle.osal_base.specs.Sink.{Appends, AppendsPrefix}

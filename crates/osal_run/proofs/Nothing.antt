@@ -1,5 +1,5 @@
 -- A run that did nothing.
-use Rattle.std.proofs.Common.{◌≡◌, List, [], ◌∷◌, ℕ, Option, Some, None, refl, sym, subst, append-nil, arith}
+use Rattle.std.proofs.Common.{◌≡◌, List, [], ℕ, Option, Some, None, refl, sym, subst, append-nil, arith}
 use Rattle.osal_base.specs.Shelf.{ShelfContent}
 use Rattle.osal_base.specs.Sink.{AppendsPrefix}
 use Rattle.osal_machine.specs.declared.call.Entry.{Entry}

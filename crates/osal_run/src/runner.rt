@@ -61,7 +61,7 @@ fn execute<K: Sink, G: Gate>(
 {
     match drive(alloc, app, gate, journal) {
         Outcome::Settled => {}
-        Outcome::NoMemory => return Exit::NoMemory,
+        Outcome::OutOfMemory => return Exit::NoMemory,
     }
     let Ok(text) = report(alloc, app, journal) else {
         return Exit::NoMemory;

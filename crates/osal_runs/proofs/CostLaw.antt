@@ -7,22 +7,22 @@ use Rattle.osal_base.specs.declared.time.Moment.{Moment}
 use Rattle.osal_base.specs.Limits.{version1}
 use Rattle.osal_base.specs.Text.{Text}
 use Rattle.osal_base.specs.Reply.{Replied, reply_of}
+use Rattle.osal_time.specs.Time.{TimeState}
 use Rattle.osal_machine.specs.Call.{text_of, said}
-use Rattle.osal_machine.specs.Time.{TimeState}
 use Rattle.osal_machine.specs.Step.{MachineState, opening, step}
 use Rattle.osal_machine.specs.History.{IsLegalFrom, after_entry}
 use Rattle.osal_machine.specs.declared.call.Call.{Call}
 use Rattle.osal_machine.specs.declared.call.Call.TheVariants as call
 use Rattle.osal_machine.specs.declared.call.Entry.{Entry}
-use Rattle.osal_script.specs.App.{Application, ScriptBody, NamesLater}
-use Rattle.osal_script.specs.Cost.{first_cost, costs_from, cost_of}
+use Rattle.osal_script.specs.App.{Application, ScriptBody, NamesLater, HandlersAreBare}
+use Rattle.osal_script.specs.Cost.{first_cost, tick_cost, costs_from, cost_of}
 use Rattle.osal_runs.specs.Segments.{Segment, has_segment, joined, begun, recorded, segments_from, segments_of}
 use Rattle.osal_runs.specs.Waiting.{deadlines, next_deadline}
 use Rattle.osal_runs.specs.Runs.{CreatesFirst, IsOfMachine, IsOfTask, IsCalled, IsCalledBy, AreCalled, Begins, FollowsScript, EndsBefore, IsTimelyCall, AreTimely}
 use Rattle.osal_runs.specs.Linked.{IsLinked, is_creation}
-use Rattle.osal_runs.specs.Potential.{cost_at, segments_potential, potential}
+use Rattle.osal_runs.specs.Potential.{prices_of, segments_potential, potential}
 use Rattle.osal_runs.specs.CostLaw.{CostBounds}
-use Rattle.osal_runs.proofs.Joining.{all_front, next_joined}
+use Rattle.osal_runs.proofs.Joining.{all_front, next_joined, scripts_before}
 use Rattle.osal_machine.proofs.DueCounts.{due_counts, deadlines_counted}
 use Rattle.osal_runs.proofs.LineCalls.{create_calls}
 use Rattle.osal_runs.proofs.Linking.{begun_as}
@@ -64,14 +64,14 @@ main_of : (bodies : List ScriptBody) (first : Entry) → CreatesFirst bodies fir
 main_of [] first none = absurd none
 main_of (body ∷ bodies) first main = unsaid_main first.call (text_of body.name) main.call
 
-module _ (app : Application) (names : NamesLater app) where
+module _ (app : Application) (names : NamesLater app) (bare : HandlersAreBare app) where
   first_by : (first : Entry) (name : Text) (stack priority : ℕ) → first.call ≡ call.TaskCreate name 0 stack priority → 1 + potential app (after_entry (opening version1) first) (recorded app [] first) ≤ cost_of app
   first_by first name stack priority same =
       let made : Call = call.TaskCreate name 0 stack priority in
       let stepped : Replied × MachineState = step (opening version1) first.task first.now made in
       let due : length (deadlines stepped.1) ≤ 0 = omega (arith, deadlines_counted stepped.1, creation_fewer (opening version1) stepped (create_calls (opening version1) first.task first.now name 0 stack priority) stepped.1.time.moment) in
-      subst (λ (c : Call). 1 + (segments_potential (cost_at app) (begun_as app c (reply_of first.reply)) + length (deadlines (step (opening version1) first.task first.now c).1)) ≤ cost_of app) (sym same)
-      (omega (arith, due, begun_left app names (reply_of first.reply) name 0 stack priority, first_at (costs_from 0 app.bodies)))
+      subst (λ (c : Call). 1 + (segments_potential (prices_of app) (begun_as app c (reply_of first.reply)) + length (deadlines (step (opening version1) first.task first.now c).1)) ≤ cost_of app) (sym same)
+      (omega (arith, due, begun_left app names (reply_of first.reply) name 0 stack priority, first_at (costs_from (tick_cost app.bodies) 0 app.bodies)))
 
   -- the first entry of a run, and all that come behind it, are paid for
   pub first_potential : (first : Entry) → CreatesFirst app.bodies first → 1 + potential app (after_entry (opening version1) first) (recorded app [] first) ≤ cost_of app
@@ -87,7 +87,8 @@ module _ (app : Application) (names : NamesLater app) where
             potential_advance app state segments linked entry is.0 (eqb-true entry.task 0 zero) is.1 due.1
         | inr some ↦
             let task : IsOfTask segments entry = subst (λ b. IsCalledBy b segments entry) some called in
-            potential_step app names state segments entry linked (next_joined entry segments task.created (all_front FollowsScript (joined segments entry) (begun app entry) scripts)) replied
+            let joins : AllByRecursion FollowsScript (joined segments entry) = all_front FollowsScript (joined segments entry) (begun app entry) scripts in
+            potential_step app names bare state segments entry linked (scripts_before entry segments joins) (next_joined entry segments task.created joins) replied
       ]
 
   -- the rest of a run has no more entries than it may still make
@@ -106,5 +107,5 @@ module _ (app : Application) (names : NamesLater app) where
 
 -- a front of a run has no more entries than its application costs
 pub cost_bounds_entries : CostBounds
-cost_bounds_entries app entries names part =
-    bounded_all app names entries part.follows.begins part.legal part.timely part.follows.scripts part.follows.ended
+cost_bounds_entries app entries names bare part =
+    bounded_all app names bare entries part.follows.begins part.legal part.timely part.follows.scripts part.follows.ended

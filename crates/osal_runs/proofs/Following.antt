@@ -6,9 +6,8 @@ use Rattle.osal_base.specs.declared.reply.Answer.{Answer}
 use Rattle.osal_base.specs.declared.time.Moment.{Moment}
 use Rattle.osal_base.specs.Limits.{version1}
 use Rattle.osal_base.specs.Reply.{Replied, reply_of}
+use Rattle.osal_time.specs.Time.{TimeState}
 use Rattle.osal_machine.specs.Call.{said}
-use Rattle.osal_machine.specs.Time.{TimeState}
-use Rattle.osal_machine.specs.Parts.{time_step}
 use Rattle.osal_machine.specs.Step.{MachineState, opening, step}
 use Rattle.osal_machine.specs.History.{after_entry, replay_from, replay}
 use Rattle.osal_machine.specs.declared.call.Call.{Call}
@@ -24,6 +23,7 @@ use Rattle.osal_runs.specs.Segments.{Segment, joined, segment_with, begun_by, be
 use Rattle.osal_runs.specs.Runs.{CreatesFirst, is_advance, IsCalled, AreCalled, Begins, moment_by, AreTimed, FollowsScript, EndsBefore, Follows, IsTimelyCall, AreTimely, IsTimely, IsPartRun}
 use Rattle.osal_runs.specs.Linked.{newest_script}
 use Rattle.osal_runs.specs.UnderWay.{moment_after}
+use Rattle.osal_runs.proofs.Moments.{moment_stays}
 use Rattle.osal_runs.proofs.Joining.{all_more, scripts_joined}
 use Rattle.osal_runs.proofs.ScriptCalls.{is_of_line, made_by_line}
 
@@ -65,15 +65,11 @@ pub moment_push : (now : Moment) (entries : List Entry) (entry : Entry) → mome
 moment_push now [] entry = refl
 moment_push now (first ∷ entries) entry = moment_push (moment_by now first.call) entries entry
 
--- the time part goes on only by an advance
-time_stays : (time : TimeState) (made : Call) → is_advance made ≡ false → (time_step time made).1 ≡ time
-time_stays time (call.Advance to) none = absurd (false≢true (sym none))
-time_stays time _ none = refl
-
 module _ (state : MachineState) (task : ℕ) (now : Moment) where
   -- only an advance makes time go on
-  pub still_time : (made : Call) → is_advance made ≡ false → (step state task now made).1.time ≡ state.time
-  still_time made none = after_time state task now made (λ (t : TimeState). t ≡ state.time) refl (time_stays state.time made none)
+  pub still_moment : (made : Call) → is_advance made ≡ false → (step state task now made).1.time.moment ≡ state.time.moment
+  still_moment made none =
+      after_time state task now made (λ (t : TimeState). t.moment ≡ state.time.moment) refl (moment_stays state.time made none)
 
   -- an advance that succeeds makes time go on to its moment
   later_time : (to : ℕ) → is_success (step state task now (call.Advance to)).0.answer ≡ true → (step state task now (call.Advance to)).1.time.moment ≡ record { ms = to }
@@ -82,7 +78,7 @@ module _ (state : MachineState) (task : ℕ) (now : Moment) where
   -- the moment after a call: an advance succeeds
   pub time_after : (made : Call) → (is_advance made ≡ true → is_success (step state task now made).0.answer ≡ true) → (step state task now made).1.time.moment ≡ moment_by state.time.moment made
   time_after (call.Advance to) succeeds = later_time to (succeeds refl)
-  time_after other succeeds = ap (λ (t : TimeState). t.moment) (still_time other refl)
+  time_after other succeeds = still_moment other refl
 
 advance_said : (made : Call) → is_advance (said made) ≡ is_advance made
 advance_said (call.Advance to) = refl
@@ -106,7 +102,7 @@ pub begun_follows : (app : Application) (entry : Entry) → AllByRecursion Follo
 begun_follows app entry =
     cond_both (is_success entry.reply.answer) _ _ (AllByRecursion FollowsScript) (λ t. by_call entry.call entry.reply.number) (λ f. tt)
   where
-    with_body : (id : ℕ) (name : List ℕ) (o : Option ScriptBody) → AllByRecursion FollowsScript (segment_with id name o)
+    with_body : (id : ℕ) (name : List ℕ) (o : Option ScriptBody) → AllByRecursion FollowsScript (segment_with id name app.bodies o)
     with_body id name None = tt
     with_body id name (Some body) = (tt, tt)
 
@@ -119,7 +115,7 @@ pub begun_ends : (app : Application) (entry : Entry) → EndsBefore (begun app e
 begun_ends app entry =
     cond_both (is_success entry.reply.answer) _ _ EndsBefore (λ t. by_call entry.call entry.reply.number) (λ f. tt)
   where
-    with_body : (id : ℕ) (name : List ℕ) (o : Option ScriptBody) → EndsBefore (segment_with id name o)
+    with_body : (id : ℕ) (name : List ℕ) (o : Option ScriptBody) → EndsBefore (segment_with id name app.bodies o)
     with_body id name None = tt
     with_body id name (Some body) = (λ again. absurd (false≢true again), tt)
 

@@ -40,7 +40,7 @@ module _ (entry : Entry) where
       elim (cases_Bool (has_segment segments entry.task)) [
         | inl later ↦ rw later (all.0, scripts_joined segments all.1 (rw later at next))
         | inr last ↦ elim (cases_Bool (is_of entry.task segment)) [
-          | inl mine ↦ rw (last, mine) (follow_push (start_of segment.body) segment.entries entry all.0 (rw (last, mine) at next), all.1)
+          | inl mine ↦ rw (last, mine) (follow_push (start_of segment.bodies segment.body) segment.entries entry all.0 (rw (last, mine) at next), all.1)
           | inr others ↦ rw (last, others) all
         ]
       ]
@@ -53,7 +53,7 @@ module _ (entry : Entry) where
         | inl later ↦ rw later (next_joined segments later (rw later at all).1)
         | inr last ↦
             let mine : is_of entry.task segment ≡ true = first_of_or (is_of entry.task segment) (has_segment segments entry.task) is last in
-            rw (last, mine) (follow_front (start_of segment.body) segment.entries entry (rw (last, mine) at all).0).1
+            rw (last, mine) (follow_front (start_of segment.bodies segment.body) segment.entries entry (rw (last, mine) at all).0).1
       ]
 
   -- the scripts made their calls before it too
@@ -63,7 +63,7 @@ module _ (entry : Entry) where
       elim (cases_Bool (has_segment segments entry.task)) [
         | inl later ↦ let rest = rw later at all in (rest.0, scripts_before segments rest.1)
         | inr last ↦ elim (cases_Bool (is_of entry.task segment)) [
-          | inl mine ↦ let rest = rw (last, mine) at all in ((follow_front (start_of segment.body) segment.entries entry rest.0).0, rest.1)
+          | inl mine ↦ let rest = rw (last, mine) at all in ((follow_front (start_of segment.bodies segment.body) segment.entries entry rest.0).0, rest.1)
           | inr others ↦ rw (last, others) at all
         ]
       ]

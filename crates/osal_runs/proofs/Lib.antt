@@ -7,12 +7,16 @@ pub mod Families
 pub mod ScriptCalls
 pub mod Linking
 pub mod LinkedSteps
+pub mod Pending
 pub mod Names
 pub mod OpenWaitLaw
+pub mod Moments
 pub mod Following
 pub mod Deadlines
 pub mod UnderWay
 pub mod LineCosts
+pub mod HandlerCosts
+pub mod Ticks
 pub mod Spending
 pub mod Paying
 pub mod Advancing

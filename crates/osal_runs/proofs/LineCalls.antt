@@ -4,6 +4,7 @@ use Rattle.std.proofs.lemmas.Bool.{cases_eq, cases_Bool, true≢false, false≢t
 use Rattle.osal_base.specs.declared.time.Moment.{Moment}
 use Rattle.osal_base.specs.declared.time.Timeout.{Timeout}
 use Rattle.osal_base.specs.declared.time.Timeout.TheVariants as timeout
+use Rattle.osal_base.specs.Limits.{version1}
 use Rattle.osal_base.specs.Text.{Text}
 use Rattle.osal_base.specs.Time.{is_check}
 use Rattle.osal_base.specs.Reply.{Replied, success, gives, goes_on, deleted, is_waits}
@@ -12,11 +13,13 @@ use Rattle.osal_idtable.proofs.OpenWaits.{SameWaits, IsOpened, IsClosed}
 use Rattle.osal_idtable.proofs.WaitSteps as waiting
 use Rattle.osal_idtable.proofs.WaitSteps.{IsWaitStep}
 use Rattle.osal_task.specs.Tasks.{TaskState, task_at, task_exit_step, checkpoint_step, task_create_step}
+use Rattle.osal_time.specs.Attachment.{AreAttached}
 use Rattle.osal_machine.specs.Call.{part_of}
 use Rattle.osal_machine.specs.Step.{MachineState, part_in, step}
 use Rattle.osal_machine.specs.OpenWaits.{has_wait, WaitsOnce}
 use Rattle.osal_machine.specs.declared.call.Call.{Call}
 use Rattle.osal_machine.specs.declared.call.Call.TheVariants as call
+use Rattle.osal_machine.proofs.Attached.{attached_kept}
 use Rattle.osal_machine.proofs.CallWaits.{other_waits, own_waits, all_waits, check_waits, waits_once}
 use Rattle.osal_machine.proofs.DueCounts.{due_in, due_counts, due_less, due_more}
 use Rattle.osal_machine.proofs.Marked.{free_step}
@@ -41,10 +44,11 @@ pub record IsKept (state left : MachineState) : Type 0 where
   pub once : (part task : ℕ) → WaitsOnce (part_in part state) task → WaitsOnce (part_in part left) task
   pub unheld : AreUnheld state.tasks → AreUnheld left.tasks
   pub kind : left.tasks.objects.table.kind ≡ state.tasks.objects.table.kind
+  pub timers : AreAttached version1.timers state.time → AreAttached version1.timers left.time
 
 -- so it is where nothing changes
 pub kept_same : (state : MachineState) → IsKept state state
-kept_same state = record { once = λ part task once. once; unheld = λ all. all; kind = refl }
+kept_same state = record { once = λ part task once. once; unheld = λ all. all; kind = refl; timers = λ all. all }
 
 -- and after each call
 pub kept_by : (state : MachineState) (task : ℕ) (now : Moment) (made : Call) → IsKept state (step state task now made).1
@@ -52,6 +56,7 @@ kept_by state task now made = record {
   once = waits_once state task now made;
   unheld = λ all. free_step state task now made all;
   kind = (shape_kept state task now made).kind;
+  timers = attached_kept version1.timers state task now made;
 }
 
 -- each part has the same open waits

@@ -5,20 +5,26 @@ use Rattle.osal_script.specs.declared.app.ScriptCall.{ScriptCall}
 use Rattle.osal_script.specs.declared.app.ScriptCall.TheVariants as script_call
 use Rattle.osal_script.specs.declared.tasks.TaskCall.{TaskCall}
 use Rattle.osal_script.specs.declared.tasks.TaskCall.TheVariants as task_line
+use Rattle.osal_script.specs.declared.timebases.TimebaseCall.{TimebaseCall}
+use Rattle.osal_script.specs.declared.timebases.TimebaseCall.TheVariants as timebase_line
 use Rattle.osal_script.specs.declared.app.Line.{Line}
 use Rattle.osal_script.specs.declared.app.Item.{Item}
 use Rattle.osal_script.specs.declared.app.Item.TheVariants as item
 use Rattle.osal_script.specs.App.{ScriptBody, Application, times, first_of_levels, onto_level, repeated, levels_of, lines_of, TaskNamesBetween, NamesBetween, ItemNames, NamesLaterFrom, NamesLater}
-use Rattle.osal_script.specs.Cost.{task_cost, line_cost, onto_cost, repeated_cost, level_costs, first_cost, body_cost, costs_from}
-use Rattle.osal_script.specs.Script.{in_body}
-use Rattle.osal_runs.specs.Potential.{cost_at, lines_cost}
+use Rattle.osal_script.specs.Cost.{Prices, task_cost, timebase_cost, line_cost, onto_cost, repeated_cost, level_costs, first_cost, body_cost, tick_cost, costs_from}
+use Rattle.osal_script.specs.Script.{Frame, OfBody, Pending, in_body}
+use Rattle.osal_runs.specs.Potential.{prices_of, lines_cost}
 use Rattle.osal_runs.proofs.Names.{later_at}
 
-module _ (cost_of_body : ℕ → ℕ) where
+-- a line that is still to come, with the registers that it uses
+abbrev in_frame : Frame → Line → Pending
+in_frame frame line = record { line = line; frame = frame }
+
+module _ (prices : Prices) where
   -- the cost of some lines
   abbrev pub sum_cost : List Line → ℕ
   sum_cost [] = 0
-  sum_cost (line ∷ lines) = line_cost cost_of_body line.call + sum_cost lines
+  sum_cost (line ∷ lines) = line_cost prices line.call + sum_cost lines
 
   sum_more : (lines more : List Line) → sum_cost (lines ++ more) ≡ sum_cost lines + sum_cost more
   sum_more [] more = omega arith
@@ -30,7 +36,7 @@ module _ (cost_of_body : ℕ → ℕ) where
       let rest = sum_times n lines in
       let more = sum_more lines (times n lines) in omega arith
 
-  onto_sums : (line : Line) (levels : List (List Line)) → onto_cost (line_cost cost_of_body line.call) (map sum_cost levels) ≡ map sum_cost (onto_level line levels)
+  onto_sums : (line : Line) (levels : List (List Line)) → onto_cost (line_cost prices line.call) (map sum_cost levels) ≡ map sum_cost (onto_level line levels)
   onto_sums line [] = ap (λ n. n ∷ []) (omega arith)
   onto_sums line (level ∷ levels) = refl
 
@@ -40,9 +46,9 @@ module _ (cost_of_body : ℕ → ℕ) where
   repeated_sums n (level ∷ around ∷ levels) =
       ap (λ c. c ∷ map sum_cost levels) (let all = sum_times n level in let more = sum_more (times n level) around in omega arith)
 
-  level_sums : (items : List Item) → level_costs cost_of_body items ≡ map sum_cost (levels_of items)
+  level_sums : (items : List Item) → level_costs prices items ≡ map sum_cost (levels_of items)
   level_sums [] = refl
-  level_sums (item.Call line ∷ items) = ap (onto_cost (line_cost cost_of_body line.call)) (level_sums items) ∙ onto_sums line (levels_of items)
+  level_sums (item.Call line ∷ items) = ap (onto_cost (line_cost prices line.call)) (level_sums items) ∙ onto_sums line (levels_of items)
   level_sums (item.Repeat count ∷ items) = ap (repeated_cost count) (level_sums items) ∙ repeated_sums count (levels_of items)
   level_sums (item.End ∷ items) = ap (λ costs. 0 ∷ costs) (level_sums items)
 
@@ -50,32 +56,42 @@ module _ (cost_of_body : ℕ → ℕ) where
   first_sum [] = refl
   first_sum (level ∷ levels) = refl
 
-  pending_sum : (lines : List Line) → lines_cost cost_of_body (map in_body lines) ≡ sum_cost lines
-  pending_sum [] = refl
-  pending_sum (line ∷ lines) = ap (λ n. line_cost cost_of_body line.call + n) (pending_sum lines)
+  -- the cost of the items is that of the lines with the repeats written out
+  pub items_sum : (body : ScriptBody) → first_cost (level_costs prices body.items) ≡ sum_cost (lines_of body)
+  items_sum body = ap first_cost (level_sums body.items) ∙ first_sum (levels_of body.items)
+
+  -- lines that are still to come cost the same whosever registers they use
+  pub pending_sum : (frame : Frame) (lines : List Line) → lines_cost prices (map (in_frame frame) lines) ≡ sum_cost lines
+  pending_sum frame [] = refl
+  pending_sum frame (line ∷ lines) = ap (λ n. line_cost prices line.call + n) (pending_sum frame lines)
 
   -- the cost of a body is that of its lines, and two
-  pub body_sum : (body : ScriptBody) → body_cost cost_of_body body ≡ lines_cost cost_of_body (map in_body (lines_of body)) + 2
-  body_sum body = ap (λ n. n + 2) (ap first_cost (level_sums body.items) ∙ first_sum (levels_of body.items) ∙ sym (pending_sum (lines_of body)))
+  pub body_sum : (body : ScriptBody) → body_cost prices body ≡ lines_cost prices (map in_body (lines_of body)) + 2
+  body_sum body = ap (λ n. n + 2) (items_sum body ∙ sym (pending_sum OfBody (lines_of body)))
 
-module _ (cost other_cost : ℕ → ℕ) (number : ℕ) (same : (body : ℕ) → number < body → cost body ≡ other_cost body) where
-  task_same : (count : ℕ) (made : TaskCall) → TaskNamesBetween number count made → task_cost cost made ≡ task_cost other_cost made
-  task_same count (task_line.Create register name body stack priority) names = ap (λ n. 8 + n) (same body names.0)
+module _ (prices other : Prices) (number : ℕ) (bodies : (body : ℕ) → number < body → prices.body body ≡ other.body body) (tick : prices.tick ≡ other.tick) where
+  task_same : (count : ℕ) (made : TaskCall) → TaskNamesBetween number count made → task_cost prices made ≡ task_cost other made
+  task_same count (task_line.Create register name body stack priority) names = ap (λ n. 8 + n) (bodies body names.0)
   task_same count _ names = refl
 
-  line_same : (count : ℕ) (made : ScriptCall) → NamesBetween number count made → line_cost cost made ≡ line_cost other_cost made
+  timebase_same : (made : TimebaseCall) → timebase_cost prices made ≡ timebase_cost other made
+  timebase_same (timebase_line.Tick id usecs) = tick
+  timebase_same _ = refl
+
+  line_same : (count : ℕ) (made : ScriptCall) → NamesBetween number count made → line_cost prices made ≡ line_cost other made
   line_same count (script_call.Task made) names = ap (λ n. 2 + n) (task_same count made names)
+  line_same count (script_call.Timebase made) names = ap (λ n. 2 + n) (timebase_same made)
   line_same count _ names = refl
 
-  levels_same : (count : ℕ) (items : List Item) → AllByRecursion (ItemNames number count) items → level_costs cost items ≡ level_costs other_cost items
+  levels_same : (count : ℕ) (items : List Item) → AllByRecursion (ItemNames number count) items → level_costs prices items ≡ level_costs other items
   levels_same count [] names = refl
   levels_same count (item.Call line ∷ items) names =
       λ i. onto_cost (line_same count line.call names.0 i) (levels_same count items names.1 i)
   levels_same count (item.Repeat times ∷ items) names = ap (repeated_cost times) (levels_same count items names.1)
   levels_same count (item.End ∷ items) names = ap (λ costs. 0 ∷ costs) (levels_same count items names.1)
 
-  -- bodies cost the same where those that they name do
-  body_same : (count : ℕ) (body : ScriptBody) → AllByRecursion (ItemNames number count) body.items → body_cost cost body ≡ body_cost other_cost body
+  -- bodies cost the same where those that they name and a tick do
+  body_same : (count : ℕ) (body : ScriptBody) → AllByRecursion (ItemNames number count) body.items → body_cost prices body ≡ body_cost other body
   body_same count body names = ap (λ costs. first_cost costs + 2) (levels_same count body.items names)
 
 -- a cost behind the first
@@ -83,20 +99,25 @@ behind_first : (first : ℕ) (costs : List ℕ) (number other : ℕ) → number 
 behind_first first costs number other behind =
     let n : other - number ≡ suc (other - (number + 1)) = omega arith in ap (slice_index (first ∷ costs)) n
 
+-- the prices of the bodies from a number on
+abbrev prices_from : ℕ → ℕ → List ScriptBody → Prices
+prices_from tick number bodies = record { body = λ other. slice_index (costs_from tick number bodies) (other - number); tick = tick }
+
 -- the cost of each body is that of its lines, where the bodies that they name cost as much as their numbers say
-costs_right : (number count : ℕ) (bodies : List ScriptBody) (i : ℕ) (body : ScriptBody) → NamesLaterFrom number count bodies → slice_get bodies i ≡ Some body → slice_index (costs_from number bodies) i ≡ body_cost (λ other. slice_index (costs_from number bodies) (other - number)) body
-costs_right number count [] i body later is = cc
-costs_right number count (first ∷ bodies) zero body later is =
+costs_right : (tick number count : ℕ) (bodies : List ScriptBody) (i : ℕ) (body : ScriptBody) → NamesLaterFrom number count bodies → slice_get bodies i ≡ Some body → slice_index (costs_from tick number bodies) i ≡ body_cost (prices_from tick number bodies) body
+costs_right tick number count [] i body later is = cc
+costs_right tick number count (first ∷ bodies) zero body later is =
     let same : first ≡ body = cc in
-    body_same (λ other. slice_index (costs_from (number + 1) bodies) (other - (number + 1))) (λ other. slice_index (costs_from number (first ∷ bodies)) (other - number)) number (λ other behind. sym (behind_first _ (costs_from (number + 1) bodies) number other behind)) count first later.0
-    ∙ ap (body_cost (λ other. slice_index (costs_from number (first ∷ bodies)) (other - number))) same
-costs_right number count (first ∷ bodies) (suc i) body later is =
-    costs_right (number + 1) count bodies i body later.1 is
-    ∙ body_same (λ other. slice_index (costs_from (number + 1) bodies) (other - (number + 1))) (λ other. slice_index (costs_from number (first ∷ bodies)) (other - number)) (number + 1 + i) (λ other behind. sym (behind_first _ (costs_from (number + 1) bodies) number other (omega arith))) count body (later_at (number + 1) count bodies i body later.1 is)
+    body_same (prices_from tick (number + 1) bodies) (prices_from tick number (first ∷ bodies)) number (λ other behind. sym (behind_first _ (costs_from tick (number + 1) bodies) number other behind)) refl count first later.0
+    ∙ ap (body_cost (prices_from tick number (first ∷ bodies))) same
+costs_right tick number count (first ∷ bodies) (suc i) body later is =
+    costs_right tick (number + 1) count bodies i body later.1 is
+    ∙ body_same (prices_from tick (number + 1) bodies) (prices_from tick number (first ∷ bodies)) (number + 1 + i) (λ other behind. sym (behind_first _ (costs_from tick (number + 1) bodies) number other (omega arith))) refl count body (later_at (number + 1) count bodies i body later.1 is)
 
 -- the cost of a body of an application is that of its lines, and two
-pub cost_right : (app : Application) (number : ℕ) (body : ScriptBody) → NamesLater app → slice_get app.bodies number ≡ Some body → cost_at app number ≡ lines_cost (cost_at app) (map in_body (lines_of body)) + 2
+pub cost_right : (app : Application) (number : ℕ) (body : ScriptBody) → NamesLater app → slice_get app.bodies number ≡ Some body → (prices_of app).body number ≡ lines_cost (prices_of app) (map in_body (lines_of body)) + 2
 cost_right app number body later is =
-    costs_right 0 (length app.bodies) app.bodies number body later is
-    ∙ body_same (λ other. slice_index (costs_from 0 app.bodies) (other - 0)) (cost_at app) (0 + number) (λ other behind. ap (slice_index (costs_from 0 app.bodies)) (omega arith)) (length app.bodies) body (later_at 0 (length app.bodies) app.bodies number body later is)
-    ∙ body_sum (cost_at app) body
+    let tick : ℕ = tick_cost app.bodies in
+    costs_right tick 0 (length app.bodies) app.bodies number body later is
+    ∙ body_same (prices_from tick 0 app.bodies) (prices_of app) (0 + number) (λ other behind. ap (slice_index (costs_from tick 0 app.bodies)) (omega arith)) refl (length app.bodies) body (later_at 0 (length app.bodies) app.bodies number body later is)
+    ∙ body_sum (prices_of app) body

@@ -1,12 +1,12 @@
 -- One more entry of a run keeps the state and the segments linked.
-use Rattle.std.proofs.Common.{◌≡◌, ◌++◌, ℕ, true, false, List, [], ◌∷◌, Some, None, is_some, inl, inr, refl, sym, ap, subst, ◌∙◌}
+use Rattle.std.proofs.Common.{◌≡◌, ◌++◌, ℕ, true, false, List, [], ◌∷◌, Some, None, is_some, inl, inr, refl, sym, ap, subst, ◌∙◌, arith}
 use Rattle.std.proofs.Math.Path.{subst₂}
 use Rattle.std.specs.FinMap as map
 use Rattle.std.specs.Ordering.{nat_cmp}
 use Rattle.std.proofs.lemmas.Bool.{cases_Bool, false≢true}
 use Rattle.std.proofs.lemmas.List.{append-nil}
 use Rattle.osal_base.specs.declared.time.Moment.{Moment}
-use Rattle.osal_base.specs.Limits.{version1}
+use Rattle.osal_base.specs.Limits.{Fits, version1}
 use Rattle.osal_base.specs.Text.{Text}
 use Rattle.osal_base.specs.Reply.{Replied, gives, reply_of}
 use Rattle.osal_task.specs.declared.part.Task.{Task}
@@ -19,6 +19,7 @@ use Rattle.osal_machine.specs.History.{after_entry}
 use Rattle.osal_machine.specs.declared.call.Call.{Call}
 use Rattle.osal_machine.specs.declared.call.Call.TheVariants as call
 use Rattle.osal_machine.specs.declared.call.Entry.{Entry}
+use Rattle.osal_machine.proofs.Attached.{attached_replayed}
 use Rattle.osal_machine.proofs.Own.{by_number}
 use Rattle.osal_script.specs.App.{Application, ScriptBody}
 use Rattle.osal_script.specs.Script as script
@@ -128,6 +129,22 @@ module _ (app : Application) (state : MachineState) (segments : List Segment) (l
 no_task : (id : ℕ) (active : Active Task) → task_at (opening version1).tasks id ≡ Some active → ⊥
 no_task id active is = let none : None ≡ Some active = sym (map.get-empty nat_cmp id) ∙ is in cc
 
+-- the capacities of version 1 are those of tables
+version1_fits : Fits version1
+version1_fits = record {
+  tasks = (omega arith, omega arith);
+  queues = (omega arith, omega arith);
+  count_sems = (omega arith, omega arith);
+  bin_sems = (omega arith, omega arith);
+  mutexes = (omega arith, omega arith);
+  condvars = (omega arith, omega arith);
+  timebases = (omega arith, omega arith);
+  timers = (omega arith, omega arith);
+  streams = (omega arith, omega arith);
+  dirs = (omega arith, omega arith);
+  file_systems = (omega arith, omega arith);
+}
+
 -- the opening, before any segment
 pub linked_opening : (app : Application) → IsLinked app (opening version1) []
 linked_opening app = record {
@@ -139,6 +156,7 @@ linked_opening app = record {
   once = λ part task. by_number (λ n p. WaitsOnce p task) (opening version1) tt tt tt tt tt tt tt (λ n. tt) part;
   unheld = λ id active is marked. absurd (no_task id active is);
   typed = refl;
+  timers = attached_replayed version1 [] version1_fits;
   nobody = refl;
   bodies = tt;
 }

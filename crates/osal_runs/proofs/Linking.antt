@@ -16,7 +16,7 @@ use Rattle.osal_script.specs.declared.phase.Phase.{Phase}
 use Rattle.osal_script.specs.declared.phase.Phase.TheVariants as phase
 use Rattle.osal_script.specs.App.{Application, ScriptBody}
 use Rattle.osal_script.specs.Script as script
-use Rattle.osal_script.specs.Script.{ScriptState, MayCome, IsNext, line_call, after_in, is_success, is_ended}
+use Rattle.osal_script.specs.Script.{ScriptState, MayCome, after_in, is_success, is_ended}
 use Rattle.osal_runs.specs.Segments.{Segment, is_of, has_segment, joined, segment_with, begun_by, begun, recorded}
 use Rattle.osal_runs.specs.Runs.{EndsBefore}
 use Rattle.osal_runs.specs.Linked.{newest_script, waits_in, is_live, is_leaving, IsLinkedAt, RunsBody, IsLinked, is_creation}
@@ -50,6 +50,7 @@ module _ (app : Application) (state left : MachineState) (segments : List Segmen
     once = λ part task. kept.once part task (linked.once part task);
     unheld = kept.unheld linked.unheld;
     typed = kept.kind ∙ linked.typed;
+    timers = kept.timers linked.timers;
     nobody = nobody;
     bodies = bodies;
   }
@@ -93,7 +94,7 @@ module _ (app : Application) (state left : MachineState) (segments : List Segmen
 
     -- the segment that begins with it
     abbrev first_of : List ℕ → ScriptBody → Segment
-    first_of name body = record { id = id; name = name; body = body; entries = [] }
+    first_of name body = record { id = id; name = name; bodies = app.bodies; body = body; entries = [] }
 
     -- its script begins
     linked_with : (name : List ℕ) (body : ScriptBody) → RunsBody app (first_of name body) → IsLinked app left (segments ++ first_of name body ∷ [])
@@ -130,10 +131,10 @@ module _ (app : Application) (state : MachineState) (segments : List Segment) (l
       subst (λ (c : Call). Moves state (step state task now c).1 task (after_in phase.Before from c (step state task now c).0).phase) (sym (unsaid_checkpoint made may.0))
       (moves_before state task linked.unheld now at)
   moves_in phase.At from task now made plain may at =
-      moves_at state task made from.pending from.frames may at now (of_line made (made_by_line made from.pending from.frames may) plain)
+      moves_at state task made from may at now (of_line made (made_by_line made from.pending from.frames may) plain)
   moves_in (phase.Waiting part) from task now made plain (inl ends) at =
       subst (λ (c : Call). is_waits (step state task now c).0.answer ≡ false → Moves state (step state task now c).1 task (after_in (phase.Waiting part) from c (step state task now c).0).phase) (sym (unsaid_end made part ends.0))
-      (λ e. moves_end state task now part from.pending from.frames (step state task now (call.WaitEnd part)).0 at e) ends.1
+      (λ e. moves_end state task now part from (step state task now (call.WaitEnd part)).0 at e) ends.1
   moves_in (phase.Waiting part) from task now made plain (inr gone) at =
       subst (λ (c : Call). (step state task now c).0.answer ≡ answer.Deleted → Moves state (step state task now c).1 task (after_in (phase.Waiting part) from c (step state task now c).0).phase) (sym (unsaid_checkpoint made gone.0))
       (λ e. moves_deleted state task linked.unheld now part e at) gone.1
@@ -171,11 +172,11 @@ module _ (app : Application) (state : MachineState) (segments : List Segment) (l
   abbrev pub creation : Call
   creation = call.TaskCreate name body stack priority
 
-  begun_links : (left : MachineState) (id : ℕ) → Creates state left id → is_leaving (newest_script segments id).phase ≡ false → (o : Option ScriptBody) → slice_get app.bodies body ≡ o → Grows app left segments (segments ++ segment_with id name.bytes o)
+  begun_links : (left : MachineState) (id : ℕ) → Creates state left id → is_leaving (newest_script segments id).phase ≡ false → (o : Option ScriptBody) → slice_get app.bodies body ≡ o → Grows app left segments (segments ++ segment_with id name.bytes app.bodies o)
   begun_links left id creates free None is =
       subst (Grows app left segments) (sym (append-nil segments)) (record { linked = linked_without app state left segments linked id creates free; ends = λ ends. ends })
   begun_links left id creates free (Some found) is = record {
-    linked = linked_with app state left segments linked id creates free name.bytes found (body, is);
+    linked = linked_with app state left segments linked id creates free name.bytes found (refl, (body, is));
     ends = λ ends. ends_push segments _ ends (ap is_ended (was_ended app state left segments linked id creates free));
   }
 
@@ -201,7 +202,7 @@ module _ (app : Application) (state : MachineState) (segments : List Segment) (l
   creation_moves phase.Before from task reply answered may at = absurd (let e = may.0 in cc)
   creation_moves phase.At from task reply answered may at = (
     record {
-      own = answered_at state task creation from.pending from.frames may at (reply, state) (on_nothing state reply answered);
+      own = answered_at state task creation from may at (reply, state) (on_nothing state reply answered);
       others = λ other ne. (on_nothing state reply answered).agrees other;
       kept = (on_nothing state reply answered).kept;
     },

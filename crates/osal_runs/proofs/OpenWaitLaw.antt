@@ -36,9 +36,9 @@ module _ (app : Application) where
   -- what an entry begins: nothing, or the segment of a body
   abbrev pub BeginsOne : ℕ → List Segment → Type 0
   BeginsOne id new =
-      (new ≡ []) ⊎ ((name : List ℕ) × (body : ScriptBody) × (number : ℕ) × (slice_get app.bodies number ≡ Some body) × (new ≡ record { id = id; name = name; body = body; entries = [] } ∷ []))
+      (new ≡ []) ⊎ ((name : List ℕ) × (body : ScriptBody) × (number : ℕ) × (slice_get app.bodies number ≡ Some body) × (new ≡ record { id = id; name = name; bodies = app.bodies; body = body; entries = [] } ∷ []))
 
-  with_one : (id : ℕ) (name : List ℕ) (number : ℕ) (o : Option ScriptBody) → slice_get app.bodies number ≡ o → BeginsOne id (segment_with id name o)
+  with_one : (id : ℕ) (name : List ℕ) (number : ℕ) (o : Option ScriptBody) → slice_get app.bodies number ≡ o → BeginsOne id (segment_with id name app.bodies o)
   with_one id name number None is = inl refl
   with_one id name number (Some body) is = inr (name, body, number, is, refl)
 
@@ -98,8 +98,8 @@ module _ (app : Application) (segments : List Segment) (entry : Entry) (named : 
       elim (cases_eq entry.reply.number entry.task) [
         | inl own ↦ ap (λ id. is_leaving (newest_script segments id).phase) own ∙ ap is_leaving at
         | inr ne ↦
-            let new : Segment = record { id = entry.reply.number; name = name.bytes; body = found; entries = [] } in
-            let begins : begun app entry ≡ new ∷ [] = cond-true (is_success entry.reply.answer) _ _ success ∙ ap (λ c. begun_by app c entry.reply.number) same ∙ ap (segment_with entry.reply.number name.bytes) is in
+            let new : Segment = record { id = entry.reply.number; name = name.bytes; bodies = app.bodies; body = found; entries = [] } in
+            let begins : begun app entry ≡ new ∷ [] = cond-true (is_success entry.reply.answer) _ _ success ∙ ap (λ c. begun_by app c entry.reply.number) same ∙ ap (segment_with entry.reply.number name.bytes app.bodies) is in
             let ended = (ends_last (joined segments entry) new (subst (λ list. EndsBefore (joined segments entry ++ list)) begins ends)).1 in
             ap (λ (s : ScriptState). is_leaving s.phase) (sym (newest_other segments entry entry.reply.number ne)) ∙ not_leaving _ ended
       ]
@@ -110,7 +110,7 @@ module _ (app : Application) (segments : List Segment) (entry : Entry) (named : 
   free_of_ends creates success =
       let is = creation_of entry.call creates in
       let at = created_at from.phase from is.0 is.1 is.2 is.3 entry.reply.answer (subst (λ c. MayCome from.phase from (said c) entry.reply.answer) is.4 next) in
-      let body = named_next (length app.bodies) from.pending from.frames is.0 is.1 is.2 is.3 at.1 (names_newest (length app.bodies) segments entry.task named) in
+      let body = named_next (length app.bodies) from.pending from.frames is.0 is.1 is.2 is.3 at.1 (names_newest (length app.bodies) segments entry.task named).pending in
       elim ((slice_get_cases app.bodies is.1).1) [
         | inl found ↦ free_found is.0 is.1 is.2 is.3 found.0 is.4 success found.2 at.0
         | inr past ↦ absurd (omega arith)

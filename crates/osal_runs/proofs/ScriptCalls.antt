@@ -21,12 +21,13 @@ use Rattle.osal_script.specs.declared.tasks.TaskCall.{TaskCall}
 use Rattle.osal_script.specs.declared.tasks.TaskCall.TheVariants as task_line
 use Rattle.osal_script.specs.declared.phase.Phase.{Phase}
 use Rattle.osal_script.specs.declared.phase.Phase.TheVariants as phase
+use Rattle.osal_script.specs.App.{ScriptBody}
 use Rattle.osal_script.specs.Calls.{task_call, call_of}
-use Rattle.osal_script.specs.Script.{Pending, ScriptState, line_call, is_task_exit, is_exit_line, is_success, after_answer, phase_after_checkpoint, after_in}
+use Rattle.osal_script.specs.Script.{Pending, Frames, ScriptState, line_call, is_task_exit, is_exit_line, is_success, after_answer, phase_after_checkpoint, after_in}
 use Rattle.osal_runs.specs.Linked.{IsLinkedAt, waits_in}
 use Rattle.osal_runs.proofs.TaskCalls.{AreUnheld}
 pub use Rattle.osal_runs.proofs.Families.{is_of_line}
-use Rattle.osal_runs.proofs.Families.{queue_plain, count_sem_plain, bin_sem_plain, mutex_plain, condvar_plain}
+use Rattle.osal_runs.proofs.Families.{queue_plain, count_sem_plain, bin_sem_plain, mutex_plain, condvar_plain, timebase_plain, timer_plain}
 use Rattle.osal_runs.proofs.LineCalls.{Agrees, IsPlain, Moves, Removes, Opens, Closes, kept_same, kept_by, closes_part, checkpoint_calls, is_exit, IsOfLine, IsLineCall, Goes, Waits, Exits, line_calls}
 
 line_said : (made : Call) → is_of_line (said made) ≡ is_of_line made
@@ -44,15 +45,17 @@ line_of (script.CountSem made) registers = (count_sem_plain made registers).line
 line_of (script.BinSem made) registers = (bin_sem_plain made registers).line
 line_of (script.Mutex made) registers = (mutex_plain made registers).line
 line_of (script.Condvar made) registers = (condvar_plain made registers).line
+line_of (script.Timebase made) registers = (timebase_plain made registers).line
+line_of (script.Timer made) registers = (timer_plain made registers).line
 line_of (script.Hold id) registers = refl
 line_of (script.Release id) registers = refl
 
-line_next : (pending : List Pending) (frames : List (List ℕ)) → is_of_line (line_call pending frames) ≡ true
+line_next : (pending : List Pending) (frames : Frames) → is_of_line (line_call pending frames) ≡ true
 line_next [] frames = refl
 line_next (next ∷ pending) frames = line_of next.line.call _
 
 -- what is a line's call is made by a line
-pub made_by_line : (made : Call) (pending : List Pending) (frames : List (List ℕ)) → said made ≡ line_call pending frames → is_of_line made ≡ true
+pub made_by_line : (made : Call) (pending : List Pending) (frames : Frames) → said made ≡ line_call pending frames → is_of_line made ≡ true
 made_by_line made pending frames is = sym (line_said made) ∙ ap is_of_line is ∙ line_next pending frames
 
 exit_said : (made : Call) → is_exit (said made) ≡ is_exit made
@@ -70,6 +73,8 @@ exit_of (script.CountSem made) registers = (count_sem_plain made registers).exit
 exit_of (script.BinSem made) registers = (bin_sem_plain made registers).exit
 exit_of (script.Mutex made) registers = (mutex_plain made registers).exit
 exit_of (script.Condvar made) registers = (condvar_plain made registers).exit
+exit_of (script.Timebase made) registers = (timebase_plain made registers).exit
+exit_of (script.Timer made) registers = (timer_plain made registers).exit
 exit_of (script.Hold id) registers = refl
 exit_of (script.Release id) registers = refl
 
@@ -89,9 +94,9 @@ unsaid_abandon (call.WaitAbandon other) part is = is
 unsaid_abandon _ part is = absurd (cc)
 
 -- a line that was answered is followed by a checkpoint or by nothing
-answered_in : (P : Phase → Type 0) (pending : List Pending) (frames : List (List ℕ)) (reply : Replied) → P phase.Before → P phase.Ended → P (after_answer pending frames reply).phase
-answered_in P [] frames reply before ended = ended
-answered_in P (next ∷ pending) frames reply before ended =
+pub answered_in : (P : Phase → Type 0) (bodies : List ScriptBody) (pending : List Pending) (frames : Frames) (reply : Replied) → P phase.Before → P phase.Ended → P (after_answer bodies pending frames reply).phase
+answered_in P bodies [] frames reply before ended = ended
+answered_in P bodies (next ∷ pending) frames reply before ended =
     cond_both (is_exit_line next.line.call) _ _ P
     (λ t. cond_both (is_success reply.answer) _ _ P (λ s. ended) (λ f. before)) (λ f. before)
 
@@ -172,9 +177,9 @@ module _ (state left : MachineState) (task : ℕ) where
   }
 
   -- a line that waited is done
-  pub closed_done : (part : ℕ) (pending : List Pending) (frames : List (List ℕ)) (reply : Replied) → Closes state left task part → IsLinkedAt state task (phase.Waiting part) → Moves state left task (after_answer pending frames reply).phase
-  closed_done part pending frames reply is linked = record {
-    own = answered_in (IsLinkedAt left task) pending frames reply (closed_before part is linked) (closed_at (phase.Waiting part) part (λ other. refl) is linked);
+  pub closed_done : (part : ℕ) (from : ScriptState) (reply : Replied) → Closes state left task part → IsLinkedAt state task (phase.Waiting part) → Moves state left task (after_answer from.bodies from.pending from.frames reply).phase
+  closed_done part from reply is linked = record {
+    own = answered_in (IsLinkedAt left task) from.bodies from.pending from.frames reply (closed_before part is linked) (closed_at (phase.Waiting part) part (λ other. refl) is linked);
     others = is.others;
     kept = is.kept;
   }
@@ -240,43 +245,39 @@ module _ (state : MachineState) (task : ℕ) (now : Moment) where
       closes_by (call.WaitAbandon part) part refl refl some (abandon_at state task now part some)
 
   -- a wait ends
-  pub moves_end : (part : ℕ) (pending : List Pending) (frames : List (List ℕ)) (reply : Replied) → IsLinkedAt state task (phase.Waiting part) → is_waits (step state task now (call.WaitEnd part)).0.answer ≡ false → Moves state (step state task now (call.WaitEnd part)).1 task (after_answer pending frames reply).phase
-  moves_end part pending frames reply linked ends =
-      closed_done state _ task part pending frames reply (end_closes part linked ends) linked
+  pub moves_end : (part : ℕ) (from : ScriptState) (reply : Replied) → IsLinkedAt state task (phase.Waiting part) → is_waits (step state task now (call.WaitEnd part)).0.answer ≡ false → Moves state (step state task now (call.WaitEnd part)).1 task (after_answer from.bodies from.pending from.frames reply).phase
+  moves_end part from reply linked ends =
+      closed_done state _ task part from reply (end_closes part linked ends) linked
 
   -- a wait is given up
   pub moves_abandon : (part : ℕ) → IsLinkedAt state task (phase.Leaving part) → Moves state (step state task now (call.WaitAbandon part)).1 task phase.Ended
   moves_abandon part linked = closed_left state _ task part (abandon_closes part linked) linked
 
 -- an exit that succeeds is followed by nothing
-exit_ends : (made : Call) (pending : List Pending) (frames : List (List ℕ)) (reply : Replied) → said made ≡ line_call pending frames → is_exit made ≡ true → reply ≡ success → (after_answer pending frames reply).phase ≡ phase.Ended
-exit_ends made [] frames reply is exits done = refl
-exit_ends made (next ∷ pending) frames reply is exits done =
+exit_ends : (made : Call) (bodies : List ScriptBody) (pending : List Pending) (frames : Frames) (reply : Replied) → said made ≡ line_call pending frames → is_exit made ≡ true → reply ≡ success → (after_answer bodies pending frames reply).phase ≡ phase.Ended
+exit_ends made bodies [] frames reply is exits done = refl
+exit_ends made bodies (next ∷ pending) frames reply is exits done =
     cond-true (is_exit_line next.line.call) _ _ (sym (exit_of next.line.call _) ∙ ap is_exit (sym is) ∙ exit_said made ∙ exits)
     ∙ cond-true (is_success reply.answer) _ _ (ap (λ (r : Replied). is_success r.answer) done)
 
-module _ (state : MachineState) (task : ℕ) (made : Call) (pending : List Pending) (frames : List (List ℕ)) (is : said made ≡ line_call pending frames) (linked : IsLinkedAt state task phase.At) where
-  -- the script before its line
-  abbrev at_line : ScriptState
-  at_line = record { phase = phase.At; pending = pending; frames = frames }
-
+module _ (state : MachineState) (task : ℕ) (made : Call) (from : ScriptState) (is : said made ≡ line_call from.pending from.frames) (linked : IsLinkedAt state task phase.At) where
   -- a line or the exit that has an answer
-  pub answered_at : (stepped : Replied × MachineState) → IsPlain state stepped → IsLinkedAt stepped.1 task (after_in phase.At at_line made stepped.0).phase
+  pub answered_at : (stepped : Replied × MachineState) → IsPlain state stepped → IsLinkedAt stepped.1 task (after_in phase.At from made stepped.0).phase
   answered_at stepped plain =
-      let done : after_in phase.At at_line made stepped.0 ≡ after_answer pending frames stepped.0 = cond-false (is_waits stepped.0.answer) _ _ plain.answered in
+      let done : after_in phase.At from made stepped.0 ≡ after_answer from.bodies from.pending from.frames stepped.0 = cond-false (is_waits stepped.0.answer) _ _ plain.answered in
       subst (λ (script : ScriptState). IsLinkedAt stepped.1 task script.phase) (sym done)
-      (answered_in (IsLinkedAt stepped.1 task) pending frames stepped.0 (still_before state stepped.1 task (plain.agrees task) linked) (still_ended state stepped.1 task (plain.agrees task) linked))
+      (answered_in (IsLinkedAt stepped.1 task) from.bodies from.pending from.frames stepped.0 (still_before state stepped.1 task (plain.agrees task) linked) (still_ended state stepped.1 task (plain.agrees task) linked))
 
-  line_moves : (stepped : Replied × MachineState) → IsLineCall state task made stepped → Moves state stepped.1 task (after_in phase.At at_line made stepped.0).phase
+  line_moves : (stepped : Replied × MachineState) → IsLineCall state task made stepped → Moves state stepped.1 task (after_in phase.At from made stepped.0).phase
   line_moves stepped (Goes plain) = record { own = answered_at stepped plain; others = λ other ne. plain.agrees other; kept = plain.kept }
   line_moves stepped (Waits answered opens pays) =
-      let waiting : after_in phase.At at_line made stepped.0 ≡ record at_line { phase = phase.Waiting (part_of made) } = cond-true (is_waits stepped.0.answer) _ _ answered in
+      let waiting : after_in phase.At from made stepped.0 ≡ record from { phase = phase.Waiting (part_of made) } = cond-true (is_waits stepped.0.answer) _ _ answered in
       subst (λ (script : ScriptState). Moves state stepped.1 task script.phase) (sym waiting) (opened_waiting state stepped.1 task (part_of made) opens linked)
   line_moves stepped (Exits exits reply removes) =
-      let done : after_in phase.At at_line made stepped.0 ≡ after_answer pending frames stepped.0 = cond-false (is_waits stepped.0.answer) _ _ (ap (λ (r : Replied). is_waits r.answer) reply) in
-      let ended : (after_in phase.At at_line made stepped.0).phase ≡ phase.Ended = ap (λ (script : ScriptState). script.phase) done ∙ exit_ends made pending frames stepped.0 is exits reply in
+      let done : after_in phase.At from made stepped.0 ≡ after_answer from.bodies from.pending from.frames stepped.0 = cond-false (is_waits stepped.0.answer) _ _ (ap (λ (r : Replied). is_waits r.answer) reply) in
+      let ended : (after_in phase.At from made stepped.0).phase ≡ phase.Ended = ap (λ (script : ScriptState). script.phase) done ∙ exit_ends made from.bodies from.pending from.frames stepped.0 is exits reply in
       subst (λ (at : Phase). Moves state stepped.1 task at) (sym ended) (removed_ended state stepped.1 task phase.At (λ part. refl) removes linked)
 
   -- a line or the exit
-  pub moves_at : (now : Moment) → IsOfLine made → Moves state (step state task now made).1 task (after_in phase.At at_line made (step state task now made).0).phase
+  pub moves_at : (now : Moment) → IsOfLine made → Moves state (step state task now made).1 task (after_in phase.At from made (step state task now made).0).phase
   moves_at now of_line = line_moves (step state task now made) (line_calls state task now made of_line)

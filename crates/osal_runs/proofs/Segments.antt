@@ -1,10 +1,16 @@
 -- The segments with one more entry.
 use Rattle.std.proofs.Common.{◌≡◌, ◌||◌, ◌++◌, ℕ, Bool, true, false, cond, List, [], ◌∷◌, inl, inr, refl, sym, ap, ◌∙◌, arith}
+use Rattle.std.specs.List.{AllByRecursion}
 use Rattle.std.proofs.lemmas.Bool.{cond_both, cases_Bool, false≢true, or_parts}
 use Rattle.std.proofs.lemmas.Bool.Decides.{nat_tests}
 use Rattle.std.proofs.lemmas.List.Folds.{list_any-append}
+use Rattle.osal_base.specs.Reply.{Replied, reply_of, is_waits}
+use Rattle.osal_machine.specs.declared.call.Call.{Call}
 use Rattle.osal_machine.specs.declared.call.Entry.{Entry}
-use Rattle.osal_script.specs.Script.{ScriptState, start_of, reached, Follow, IsNext, after_entry}
+use Rattle.osal_script.specs.declared.phase.Phase.{Phase}
+use Rattle.osal_script.specs.declared.phase.Phase.TheVariants as phase
+use Rattle.osal_script.specs.App.{ScriptBody}
+use Rattle.osal_script.specs.Script.{Pending, Frames, ScriptState, start_of, after_answer, is_checkpoint, after_in, reached, Follow, IsNext, after_entry}
 use Rattle.osal_runs.specs.Segments.{Segment, script_in, is_of, has_segment, joined}
 use Rattle.osal_runs.specs.Linked.{no_script, newest_script}
 
@@ -23,6 +29,28 @@ pub follow_front : (state : ScriptState) (entries : List Entry) (entry : Entry) 
 follow_front state [] entry follows = (tt, follows.0)
 follow_front state (first ∷ entries) entry follows =
     let rest = follow_front (after_entry state first) entries entry follows.1 in ((follows.0, rest.0), rest.1)
+
+answered_bodies : (bodies : List ScriptBody) (pending : List Pending) (frames : Frames) (reply : Replied) → (after_answer bodies pending frames reply).bodies ≡ bodies
+answered_bodies bodies [] frames reply = refl
+answered_bodies bodies (next ∷ pending) frames reply = refl
+
+bodies_in : (at : Phase) (from : ScriptState) (made : Call) (reply : Replied) → (after_in at from made reply).bodies ≡ from.bodies
+bodies_in phase.Before from made reply = refl
+bodies_in phase.At from made reply =
+    cond_both (is_waits reply.answer) _ _ (λ (s : ScriptState). s.bodies ≡ from.bodies) (λ t. refl) (λ f. answered_bodies from.bodies from.pending from.frames reply)
+bodies_in (phase.Waiting part) from made reply =
+    cond_both (is_checkpoint made) _ _ (λ (s : ScriptState). s.bodies ≡ from.bodies) (λ t. refl) (λ f. answered_bodies from.bodies from.pending from.frames reply)
+bodies_in (phase.Leaving part) from made reply = refl
+bodies_in phase.Ended from made reply = refl
+
+-- a script keeps the bodies that it knows
+pub bodies_after : (from : ScriptState) (entry : Entry) → (after_entry from entry).bodies ≡ from.bodies
+bodies_after from entry = bodies_in from.phase from entry.call (reply_of entry.reply)
+
+-- also behind some entries
+pub bodies_reached : (from : ScriptState) (entries : List Entry) → (reached from entries).bodies ≡ from.bodies
+bodies_reached from [] = refl
+bodies_reached from (entry ∷ entries) = bodies_reached (after_entry from entry) entries ∙ bodies_after from entry
 
 -- an entry begins no segment by itself where it joins one
 pub has_joined : (segments : List Segment) (entry : Entry) (id : ℕ) → has_segment (joined segments entry) id ≡ has_segment segments id
@@ -45,7 +73,7 @@ newest_joined (segment ∷ segments) entry is =
       | inl later ↦ rw (later, has_joined segments entry entry.task, later) (newest_joined segments entry later)
       | inr last ↦
           let mine : is_of entry.task segment ≡ true = first_of_or (is_of entry.task segment) (has_segment segments entry.task) is last in
-          rw (last, mine, last, mine) (reached_push (start_of segment.body) segment.entries entry)
+          rw (last, mine, last, mine) (reached_push (start_of segment.bodies segment.body) segment.entries entry)
     ]
 
 -- a segment of one identifier is of no other
@@ -94,3 +122,9 @@ newest_push [] new id = refl
 newest_push (segment ∷ segments) new id =
     rw (has_more segments (new ∷ []) id, newest_push segments new id)
     (swap_last (has_segment segments id) (is_of id new) (script_in new) (newest_script segments id) (cond (is_of id segment) (script_in segment) no_script))
+
+-- what holds of each segment's script, and of none, holds of the newest
+pub newest_all : (P : ScriptState → Type 0) (segments : List Segment) (id : ℕ) → P no_script → AllByRecursion (λ (s : Segment). P (script_in s)) segments → P (newest_script segments id)
+newest_all P [] id none all = none
+newest_all P (segment ∷ segments) id none all =
+    cond_both (has_segment segments id) _ _ P (λ t. newest_all P segments id none all.1) (λ f. cond_both (is_of id segment) _ _ P (λ t. all.0) (λ f. none))

@@ -1,8 +1,10 @@
 -- A script's next call spends of what its lines cost.
-use Rattle.std.proofs.Common.{◌≡◌, ◌≤◌, ◌⊎◌, ◌+◌, ℕ, false, List, [], ◌∷◌, inl, inr, refl, sym, ap, subst, ◌∙◌, arith}
+use Rattle.std.proofs.Common.{◌≡◌, ◌≤◌, ◌⊎◌, ◌+◌, ◌++◌, ℕ, true, false, List, [], ◌∷◌, inl, inr, refl, sym, ap, subst, ◌∙◌, arith}
 use Rattle.std.proofs.lemmas.Bool.{cond_both, cond-true, cond-false}
 use Rattle.osal_base.specs.declared.time.Moment.{Moment}
+use Rattle.osal_base.specs.Limits.{version1}
 use Rattle.osal_base.specs.Reply.{Replied, goes_on, deleted, is_waits}
+use Rattle.osal_time.specs.Attachment.{AreAttached}
 use Rattle.osal_machine.specs.Call.{said}
 use Rattle.osal_machine.specs.Step.{MachineState, step}
 use Rattle.osal_machine.specs.declared.call.Call.{Call}
@@ -13,17 +15,20 @@ use Rattle.osal_script.specs.declared.tasks.TaskCall.{TaskCall}
 use Rattle.osal_script.specs.declared.tasks.TaskCall.TheVariants as task_line
 use Rattle.osal_script.specs.declared.phase.Phase.{Phase}
 use Rattle.osal_script.specs.declared.phase.Phase.TheVariants as phase
+use Rattle.osal_script.specs.App.{ScriptBody, is_tick_line}
 use Rattle.osal_script.specs.Calls.{task_call, call_of}
-use Rattle.osal_script.specs.Cost.{task_cost, line_cost}
-use Rattle.osal_script.specs.Script.{Pending, ScriptState, MayCome, frame_at, line_call, is_success, is_exit_line, after_answer, phase_after_line, phase_after_checkpoint, after_in}
+use Rattle.osal_script.specs.Cost.{Prices, task_cost, line_cost, tick_cost}
+use Rattle.osal_script.specs.Script.{Pending, Frames, ScriptState, MayCome, frame_at, line_call, is_success, is_exit_line, fired, after_answer, phase_after_line, phase_after_checkpoint, after_in}
 use Rattle.osal_runs.specs.Linked.{IsLinkedAt, is_creation}
 use Rattle.osal_runs.specs.Potential.{lines_cost, rest_cost, script_potential}
 use Rattle.osal_runs.proofs.TaskCalls.{AreUnheld}
+use Rattle.osal_runs.proofs.HandlerCosts.{IsFew, AreBare, lines_more, fired_none, fired_left}
+use Rattle.osal_runs.proofs.Ticks.{few_told, ticks_next, ticks_made, IsPaid, waits_plain}
 use Rattle.osal_machine.proofs.DueCounts.{due_counts}
 use Rattle.osal_runs.proofs.LineCalls.{wait_cost_of, Removes, IsLineCall, Goes, Waits, Exits, line_calls, checkpoint_calls}
 use Rattle.osal_runs.proofs.Linking.{of_line}
 use Rattle.osal_runs.proofs.ScriptCalls.{end_closes, abandon_closes, made_by_line, unsaid_checkpoint, unsaid_end, unsaid_abandon}
-use Rattle.osal_runs.proofs.Families.{queue_plain, count_sem_plain, bin_sem_plain, mutex_plain, condvar_plain}
+use Rattle.osal_runs.proofs.Families.{is_tick_call, queue_plain, count_sem_plain, bin_sem_plain, mutex_plain, condvar_plain, timebase_plain, timer_plain}
 
 -- the cost of a call's wait is that of what it says
 wait_said : (made : Call) → wait_cost_of (said made) ≡ wait_cost_of made
@@ -31,70 +36,82 @@ wait_said (call.TaskDelay ms) = refl
 wait_said (call.BinSemTake id wait) = refl
 wait_said _ = refl
 
-task_pays : (cost : ℕ → ℕ) (made : TaskCall) (registers : List ℕ) → wait_cost_of (task_call made registers) ≤ task_cost cost made
-task_pays cost (task_line.Create register name body stack priority) registers = omega arith
-task_pays cost (task_line.Delay ms) registers = omega arith
-task_pays cost _ registers = omega arith
+task_pays : (prices : Prices) (made : TaskCall) (registers : List ℕ) → wait_cost_of (task_call made registers) ≤ task_cost prices made
+task_pays prices (task_line.Create register name body stack priority) registers = omega arith
+task_pays prices (task_line.Delay ms) registers = omega arith
+task_pays prices _ registers = omega arith
 
 -- a line costs its checkpoint, its call and its wait
-line_pays : (cost : ℕ → ℕ) (line : ScriptCall) (registers : List ℕ) → wait_cost_of (call_of line registers) + 2 ≤ line_cost cost line
-line_pays cost (script_call.Task made) registers = let pays = task_pays cost made registers in omega arith
-line_pays cost (script_call.Queue made) registers = let pays = (queue_plain made registers).pays in omega arith
-line_pays cost (script_call.CountSem made) registers = let pays = (count_sem_plain made registers).pays in omega arith
-line_pays cost (script_call.BinSem made) registers = let pays = (bin_sem_plain made registers).pays in omega arith
-line_pays cost (script_call.Mutex made) registers = let pays = (mutex_plain made registers).pays in omega arith
-line_pays cost (script_call.Condvar made) registers = let pays = (condvar_plain made registers).pays in omega arith
-line_pays cost (script_call.Hold id) registers = omega arith
-line_pays cost (script_call.Release id) registers = omega arith
+line_pays : (prices : Prices) (line : ScriptCall) (registers : List ℕ) → wait_cost_of (call_of line registers) + 2 ≤ line_cost prices line
+line_pays prices (script_call.Task made) registers = let pays = task_pays prices made registers in omega arith
+line_pays prices (script_call.Queue made) registers = let pays = (queue_plain made registers).pays in omega arith
+line_pays prices (script_call.CountSem made) registers = let pays = (count_sem_plain made registers).pays in omega arith
+line_pays prices (script_call.BinSem made) registers = let pays = (bin_sem_plain made registers).pays in omega arith
+line_pays prices (script_call.Mutex made) registers = let pays = (mutex_plain made registers).pays in omega arith
+line_pays prices (script_call.Condvar made) registers = let pays = (condvar_plain made registers).pays in omega arith
+line_pays prices (script_call.Timebase made) registers = let pays = (timebase_plain made registers).pays in omega arith
+line_pays prices (script_call.Timer made) registers = let pays = (timer_plain made registers).pays in omega arith
+line_pays prices (script_call.Hold id) registers = omega arith
+line_pays prices (script_call.Release id) registers = omega arith
 
-module _ (cost : ℕ → ℕ) where
+module _ (prices : Prices) where
   -- what a script may still make
   abbrev pub left_in : ScriptState → ℕ
-  left_in from = script_potential cost from.phase from.pending
-
-  -- a line costs two at least
-  line_some : (line : ScriptCall) → 2 ≤ line_cost cost line
-  line_some line = omega (arith, line_pays cost line [])
+  left_in from = script_potential prices from.phase from.pending
 
   -- what is left behind a line that was answered, or behind the exit
-  pub phase_left : (pending : List Pending) (line : ScriptCall) (reply : Replied) → script_potential cost (phase_after_line line reply.answer) pending ≤ lines_cost cost pending + 2
+  pub phase_left : (pending : List Pending) (line : ScriptCall) (reply : Replied) → script_potential prices (phase_after_line line reply.answer) pending ≤ lines_cost prices pending + 2
   phase_left pending line reply =
-      cond_both (is_exit_line line) _ _ (λ (at : Phase). script_potential cost at pending ≤ lines_cost cost pending + 2)
-      (λ t. cond_both (is_success reply.answer) _ _ (λ (at : Phase). script_potential cost at pending ≤ lines_cost cost pending + 2) (λ s. omega arith) (λ f. omega arith))
+      cond_both (is_exit_line line) _ _ (λ (at : Phase). script_potential prices at pending ≤ lines_cost prices pending + 2)
+      (λ t. cond_both (is_success reply.answer) _ _ (λ (at : Phase). script_potential prices at pending ≤ lines_cost prices pending + 2) (λ s. omega arith) (λ f. omega arith))
       (λ f. omega arith)
 
-  answered_left : (pending : List Pending) (frames : List (List ℕ)) (reply : Replied) → left_in (after_answer pending frames reply) ≤ lines_cost cost pending
-  answered_left [] frames reply = omega arith
-  answered_left (next ∷ pending) frames reply = omega (arith, phase_left pending next.line.call reply, line_some next.line.call)
+  answered_left : (bodies : List ScriptBody) (pending : List Pending) (frames : Frames) (reply : Replied) → AreBare bodies → tick_cost bodies ≤ prices.tick → (ticks_next pending ≡ true → IsFew reply.bytes) → left_in (after_answer bodies pending frames reply) ≤ lines_cost prices pending
+  answered_left bodies [] frames reply bare paid few = omega arith
+  answered_left bodies (next ∷ pending) frames reply bare paid few =
+      omega (arith, phase_left (fired bodies next reply ++ pending) next.line.call reply, lines_more prices (fired bodies next reply) pending, fired_left prices bodies next reply bare paid few)
 
-  ended_left : (pending : List Pending) (frames : List (List ℕ)) (reply : Replied) → left_in (after_answer pending frames reply) ≤ rest_cost cost pending + 2
-  ended_left [] frames reply = omega arith
-  ended_left (next ∷ pending) frames reply = phase_left pending next.line.call reply
+  -- a line that is no tick leaves those behind it
+  pub plain_left : (bodies : List ScriptBody) (next : Pending) (pending : List Pending) (frames : Frames) (reply : Replied) → is_tick_line next.line.call ≡ false → left_in (after_answer bodies (next ∷ pending) frames reply) ≤ lines_cost prices pending + 2
+  plain_left bodies next pending frames reply none =
+      subst (λ (lines : List Pending). script_potential prices (phase_after_line next.line.call reply.answer) (lines ++ pending) ≤ lines_cost prices pending + 2) (sym (fired_none bodies next reply none))
+      (phase_left pending next.line.call reply)
+
+  ended_left : (bodies : List ScriptBody) (pending : List Pending) (frames : Frames) (reply : Replied) → ticks_next pending ≡ false → left_in (after_answer bodies pending frames reply) ≤ rest_cost prices pending + 2
+  ended_left bodies [] frames reply none = omega arith
+  ended_left bodies (next ∷ pending) frames reply none = plain_left bodies next pending frames reply none
 
   -- a line that waits has paid for its wait
-  waits_left : (made : Call) (pending : List Pending) (frames : List (List ℕ)) → said made ≡ line_call pending frames → 1 ≤ wait_cost_of made → rest_cost cost pending + wait_cost_of made + 2 ≤ lines_cost cost pending
+  waits_left : (made : Call) (pending : List Pending) (frames : Frames) → said made ≡ line_call pending frames → 1 ≤ wait_cost_of made → rest_cost prices pending + wait_cost_of made + 2 ≤ lines_cost prices pending
   waits_left made [] frames is some =
       let none : wait_cost_of made ≡ 0 = sym (wait_said made) ∙ ap wait_cost_of is in absurd (omega arith)
   waits_left made (next ∷ pending) frames is some =
       let same : wait_cost_of made ≡ wait_cost_of (call_of next.line.call (frame_at frames next.frame)) = sym (wait_said made) ∙ ap wait_cost_of is in
-      omega (arith, line_pays cost next.line.call (frame_at frames next.frame))
+      omega (arith, line_pays prices next.line.call (frame_at frames next.frame))
 
   -- a call spends one at least of what its script may still make, and of the deadlines behind a moment
   abbrev pub Spends : MachineState → MachineState → Moment → ScriptState → Phase → List Pending → Type 0
   Spends state left moment after at pending =
-      left_in after + due_counts moment left + 1 ≤ script_potential cost at pending + due_counts moment state
+      left_in after + due_counts moment left + 1 ≤ script_potential prices at pending + due_counts moment state
 
   module _ (state : MachineState) (task : ℕ) (moment : Moment) where
-    line_spends : (made : Call) (from : ScriptState) (stepped : Replied × MachineState) → said made ≡ line_call from.pending from.frames → IsLineCall state task made stepped → Spends state stepped.1 moment (after_in phase.At from made stepped.0) phase.At from.pending
-    line_spends made from stepped is (Goes plain) =
-        subst (λ (after : ScriptState). Spends state stepped.1 moment after phase.At from.pending) (sym (cond-false (is_waits stepped.0.answer) _ _ plain.answered))
-        (omega (arith, answered_left from.pending from.frames stepped.0, plain.fewer moment))
-    line_spends made from stepped is (Waits answered opens pays) =
-        subst (λ (after : ScriptState). Spends state stepped.1 moment after phase.At from.pending) (sym (cond-true (is_waits stepped.0.answer) _ _ answered))
-        (omega (arith, waits_left made from.pending from.frames is pays.some, pays.more moment))
-    line_spends made from stepped is (Exits exits reply removes) =
-        subst (λ (after : ScriptState). Spends state stepped.1 moment after phase.At from.pending) (sym (cond-false (is_waits stepped.0.answer) _ _ (ap (λ (r : Replied). is_waits r.answer) reply)))
-        (omega (arith, answered_left from.pending from.frames stepped.0, removes.fewer moment))
+    line_spends : (made : Call) (from : ScriptState) (stepped : Replied × MachineState) → said made ≡ line_call from.pending from.frames → IsPaid prices phase.At from → (is_tick_call made ≡ true → IsFew stepped.0.bytes) → IsLineCall state task made stepped → Spends state stepped.1 moment (after_in phase.At from made stepped.0) phase.At from.pending
+    line_spends made from stepped is paid few calls = by_call calls
+      where
+        answered : left_in (after_answer from.bodies from.pending from.frames stepped.0) ≤ lines_cost prices from.pending
+        answered =
+            answered_left from.bodies from.pending from.frames stepped.0 paid.bare paid.tick (λ ticks. few (ticks_made made from.pending from.frames is ∙ ticks))
+
+        by_call : IsLineCall state task made stepped → Spends state stepped.1 moment (after_in phase.At from made stepped.0) phase.At from.pending
+        by_call (Goes plain) =
+            subst (λ (after : ScriptState). Spends state stepped.1 moment after phase.At from.pending) (sym (cond-false (is_waits stepped.0.answer) _ _ plain.answered))
+            (omega (arith, answered, plain.fewer moment))
+        by_call (Waits waited opens pays) =
+            subst (λ (after : ScriptState). Spends state stepped.1 moment after phase.At from.pending) (sym (cond-true (is_waits stepped.0.answer) _ _ waited))
+            (omega (arith, waits_left made from.pending from.frames is pays.some, pays.more moment))
+        by_call (Exits exits reply removes) =
+            subst (λ (after : ScriptState). Spends state stepped.1 moment after phase.At from.pending) (sym (cond-false (is_waits stepped.0.answer) _ _ (ap (λ (r : Replied). is_waits r.answer) reply)))
+            (omega (arith, answered, removes.fewer moment))
 
     -- a checkpoint changes nothing, or removes its task
     abbrev IsPassed : Replied × MachineState → Type 0
@@ -113,19 +130,19 @@ module _ (cost : ℕ → ℕ) where
     passed_leaves part from stepped (inr gone) = omega (arith, gone.1.fewer moment)
 
     -- the next call of a script, where it creates no task
-    pub spends_in : (unheld : AreUnheld state.tasks) (at : Phase) (from : ScriptState) (now : Moment) (made : Call) → is_creation made ≡ false → MayCome at from (said made) (step state task now made).0.answer → IsLinkedAt state task at → Spends state (step state task now made).1 moment (after_in at from made (step state task now made).0) at from.pending
-    spends_in unheld phase.Before from now made plain may linked =
+    pub spends_in : (unheld : AreUnheld state.tasks) (attached : AreAttached version1.timers state.time) (at : Phase) (from : ScriptState) (now : Moment) (made : Call) → is_creation made ≡ false → MayCome at from (said made) (step state task now made).0.answer → IsPaid prices at from → IsLinkedAt state task at → Spends state (step state task now made).1 moment (after_in at from made (step state task now made).0) at from.pending
+    spends_in unheld attached phase.Before from now made plain may paid linked =
         subst (λ (c : Call). Spends state (step state task now c).1 moment (after_in phase.Before from c (step state task now c).0) phase.Before from.pending) (sym (unsaid_checkpoint made may.0))
         (passed_spends from (step state task now call.Checkpoint) (checkpoint_calls state task now (linked.live refl) unheld))
-    spends_in unheld phase.At from now made plain may linked =
-        line_spends made from (step state task now made) may (line_calls state task now made (of_line made (made_by_line made from.pending from.frames may) plain))
-    spends_in unheld (phase.Waiting part) from now made plain (inl ends) linked =
+    spends_in unheld attached phase.At from now made plain may paid linked =
+        line_spends made from (step state task now made) may paid (few_told state task now made attached) (line_calls state task now made (of_line made (made_by_line made from.pending from.frames may) plain))
+    spends_in unheld attached (phase.Waiting part) from now made plain (inl ends) paid linked =
         subst (λ (c : Call). is_waits (step state task now c).0.answer ≡ false → Spends state (step state task now c).1 moment (after_in (phase.Waiting part) from c (step state task now c).0) (phase.Waiting part) from.pending) (sym (unsaid_end made part ends.0))
-        (λ e. omega (arith, ended_left from.pending from.frames (step state task now (call.WaitEnd part)).0, (end_closes state task now part linked e).fewer moment)) ends.1
-    spends_in unheld (phase.Waiting part) from now made plain (inr gone) linked =
+        (λ e. omega (arith, ended_left from.bodies from.pending from.frames (step state task now (call.WaitEnd part)).0 (waits_plain state task part from.pending from.frames paid.waits linked), (end_closes state task now part linked e).fewer moment)) ends.1
+    spends_in unheld attached (phase.Waiting part) from now made plain (inr gone) paid linked =
         subst (λ (c : Call). Spends state (step state task now c).1 moment (after_in (phase.Waiting part) from c (step state task now c).0) (phase.Waiting part) from.pending) (sym (unsaid_checkpoint made gone.0))
         (passed_leaves part from (step state task now call.Checkpoint) (checkpoint_calls state task now (linked.live refl) unheld))
-    spends_in unheld (phase.Leaving part) from now made plain may linked =
+    spends_in unheld attached (phase.Leaving part) from now made plain may paid linked =
         subst (λ (c : Call). Spends state (step state task now c).1 moment (after_in (phase.Leaving part) from c (step state task now c).0) (phase.Leaving part) from.pending) (sym (unsaid_abandon made part may))
         (omega (arith, (abandon_closes state task now part linked).fewer moment))
-    spends_in unheld phase.Ended from now made plain may linked = absurd may
+    spends_in unheld attached phase.Ended from now made plain may paid linked = absurd may

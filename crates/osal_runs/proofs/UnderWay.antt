@@ -7,7 +7,7 @@ use Rattle.osal_base.specs.declared.time.Moment.{Moment}
 use Rattle.osal_base.specs.Identifier.{slot_of}
 use Rattle.osal_base.specs.Limits.{version1}
 use Rattle.osal_base.specs.Reply.{Replied, reply_of}
-use Rattle.osal_machine.specs.Time.{TimeState}
+use Rattle.osal_time.specs.Time.{TimeState}
 use Rattle.osal_machine.specs.Step.{MachineState, opening, step}
 use Rattle.osal_machine.specs.History.{after_entry, replay}
 use Rattle.osal_machine.specs.declared.call.Call.{Call}

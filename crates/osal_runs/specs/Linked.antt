@@ -5,6 +5,7 @@ use Rattle.osal_base.specs.Limits.{version1}
 use Rattle.osal_idtable.specs.Table.{Active}
 use Rattle.osal_task.specs.declared.part.Task.{Task}
 use Rattle.osal_task.specs.Tasks.{task_at}
+use Rattle.osal_time.specs.Attachment.{AreAttached}
 use Rattle.osal_machine.specs.declared.call.Call.{Call}
 use Rattle.osal_machine.specs.declared.call.Call.TheVariants as call
 use Rattle.osal_machine.specs.declared.call.Entry.{Entry}
@@ -20,7 +21,7 @@ use Rattle.osal_runs.specs.Runs.{Follows}
 
 -- a script at its end, for an identifier without a segment
 abbrev pub no_script : ScriptState
-no_script = record { phase = phase.Ended; pending = []; frames = [] }
+no_script = record { phase = phase.Ended; pending = []; frames = record { body = []; handler = [] }; bodies = [] }
 
 -- how far the script of an identifier's newest segment has come
 abbrev pub newest_script : List Segment → ℕ → ScriptState
@@ -61,17 +62,19 @@ pub record IsLinkedAt (state : MachineState) (task : ℕ) (at : Phase) : Type 0 
   pub live : is_live at ≡ true → is_some (task_at state.tasks task) ≡ true
   pub gone : is_leaving at ≡ true → is_some (task_at state.tasks task) ≡ false
 
--- a segment runs a body of the application
+-- a segment runs a body of the application, and knows its other bodies
 abbrev pub RunsBody : Application → Segment → Type 0
-RunsBody app segment = (number : ℕ) × (slice_get app.bodies number ≡ Some segment.body)
+RunsBody app segment =
+    (segment.bodies ≡ app.bodies) × ((number : ℕ) × (slice_get app.bodies number ≡ Some segment.body))
 
 -- a state and the segments before it belong together: each task has an open wait exactly where its newest script
--- waits, and at most one in a part; no task that is marked for deletion is held
+-- waits, and at most one in a part; no task that is marked for deletion is held; each timer is attached to its timebase
 pub record IsLinked (app : Application) (state : MachineState) (segments : List Segment) : Type 0 where
   pub each : (task : ℕ) → IsLinkedAt state task (newest_script segments task).phase
   pub once : (part task : ℕ) → WaitsOnce (part_in part state) task
   pub unheld : (id : ℕ) (active : Active Task) → task_at state.tasks id ≡ Some active → active.object.marked ≡ true → active.holds ≡ 0
   pub typed : state.tasks.objects.table.kind ≡ 1
+  pub timers : AreAttached version1.timers state.time
   pub nobody : has_segment segments 0 ≡ false
   pub bodies : AllByRecursion (RunsBody app) segments
 

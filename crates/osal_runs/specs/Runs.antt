@@ -74,7 +74,7 @@ AreTimed now (entry ∷ entries) = (entry.now ≡ now) × AreTimed (moment_by no
 
 -- the entries of a segment are exactly its script's calls, as far as they go
 abbrev pub FollowsScript : Segment → Type 0
-FollowsScript segment = Follow (start_of segment.body) segment.entries
+FollowsScript segment = Follow (start_of segment.bodies segment.body) segment.entries
 
 -- a segment whose identifier is created again has come to its script's end
 abbrev pub EndsBefore : List Segment → Type 0

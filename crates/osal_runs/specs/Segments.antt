@@ -7,17 +7,18 @@ use Rattle.osal_machine.specs.declared.call.Entry.{Entry}
 use Rattle.osal_script.specs.App.{Application, ScriptBody}
 use Rattle.osal_script.specs.Script.{ScriptState, start_of, reached, is_success}
 
--- a task that an entry created, under this name, with this body; its entries are those of its identifier behind
--- that entry and before the next one that creates the same identifier
+-- a task that an entry created, under this name, with this body, one of an application's; its entries are those of its
+-- identifier behind that entry and before the next one that creates the same identifier
 pub record Segment : Type 0 where
   pub id : ℕ
   pub name : List ℕ
+  pub bodies : List ScriptBody
   pub body : ScriptBody
   pub entries : List Entry
 
 -- how far the segment's script has come
 abbrev pub script_in : Segment → ScriptState
-script_in segment = reached (start_of segment.body) segment.entries
+script_in segment = reached (start_of segment.bodies segment.body) segment.entries
 
 -- whether a segment is of the identifier
 abbrev pub is_of : ℕ → Segment → Bool
@@ -36,15 +37,16 @@ joined (segment ∷ segments) entry =
     then record segment { entries = segment.entries ++ entry ∷ [] } ∷ segments
     else segment ∷ segments)
 
--- the segment of a task that was created with a body of the application
-abbrev pub segment_with : ℕ → List ℕ → Option ScriptBody → List Segment
-segment_with id name None = []
-segment_with id name (Some body) = record { id = id; name = name; body = body; entries = [] } ∷ []
+-- the segment of a task that was created with one of an application's bodies
+abbrev pub segment_with : ℕ → List ℕ → List ScriptBody → Option ScriptBody → List Segment
+segment_with id name bodies None = []
+segment_with id name bodies (Some body) =
+    record { id = id; name = name; bodies = bodies; body = body; entries = [] } ∷ []
 
 -- the segment that a call which succeeded begins
 abbrev pub begun_by : Application → Call → ℕ → List Segment
 begun_by app (call.TaskCreate name body stack priority) id =
-    segment_with id name.bytes (slice_get app.bodies body)
+    segment_with id name.bytes app.bodies (slice_get app.bodies body)
 begun_by app other id = []
 
 -- the segment that an entry begins, if it creates a task

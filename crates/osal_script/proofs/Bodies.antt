@@ -6,11 +6,14 @@ use Rattle.osal_script.specs.declared.app.ScriptCall.{ScriptCall}
 use Rattle.osal_script.specs.declared.app.ScriptCall.TheVariants as script
 use Rattle.osal_script.specs.declared.tasks.TaskCall.{TaskCall}
 use Rattle.osal_script.specs.declared.tasks.TaskCall.TheVariants as task
+use Rattle.osal_script.specs.declared.timebases.TimebaseCall.{TimebaseCall}
+use Rattle.osal_script.specs.declared.timebases.TimebaseCall.TheVariants as timebase
 use Rattle.osal_script.specs.declared.app.Item.{Item}
 use Rattle.osal_script.specs.declared.app.Item.TheVariants as item
 use Rattle.osal_script.specs.App.{ScriptBody, TaskNamesBetween, NamesBetween, ItemNames, NamesLaterFrom}
-use Rattle.osal_script.specs.Cost.{onto_cost, level_costs, task_cost, line_cost, first_cost, costs_from}
-use Rattle.osal_script.specs.Saturated.{saturated, onto_saturated, repeated_saturated}
+use Rattle.osal_script.specs.declared.cost.Prices as kept
+use Rattle.osal_script.specs.Cost.{Prices, onto_cost, level_costs, task_cost, timebase_cost, line_cost, first_cost, costs_from}
+use Rattle.osal_script.specs.Saturated.{saturated, onto_saturated, repeated_saturated, prices_of}
 use Rattle.osal_script.proofs.Lists.{begins_with}
 use Rattle.osal_script.proofs.Costs.{saturated-repeated, saturated_sum}
 
@@ -18,34 +21,42 @@ saturated-onto : (cost : ℕ) (levels : List ℕ) → map saturated (onto_cost c
 saturated-onto cost [] = ap (λ (x : ℕ). x ∷ []) (omega arith)
 saturated-onto cost (level ∷ levels) = ap (λ (x : ℕ). x ∷ map saturated levels) (sym (saturated_sum cost level))
 
--- two ways to tell what the bodies cost agree, by what 64 bits tell, on those that a body may name
-abbrev pub Agree : ℕ → ℕ → (ℕ → ℕ) → (ℕ → ℕ) → Type 0
-Agree number count costs others = (other : ℕ) → number < other → other < count → saturated (costs other) ≡ saturated (others other)
+-- two ways to tell the prices agree, by what 64 bits tell, on a tick and on the bodies that a body may name
+pub record Agree (number count : ℕ) (prices others : Prices) : Type 0 where
+  pub body : (other : ℕ) → number < other → other < count → saturated (prices.body other) ≡ saturated (others.body other)
+  pub tick : saturated prices.tick ≡ saturated others.tick
 
-same_task : (number count : ℕ) (costs others : ℕ → ℕ) (made : TaskCall) → Agree number count costs others → TaskNamesBetween number count made → saturated (2 + task_cost costs made) ≡ saturated (2 + task_cost others made)
-same_task number count costs others (task.Create register name body stack priority) agree names =
-    let same : saturated (costs body) ≡ saturated (others body) = agree body names.0 names.1 in
+same_task : (number count : ℕ) (prices others : Prices) (made : TaskCall) → Agree number count prices others → TaskNamesBetween number count made → saturated (2 + task_cost prices made) ≡ saturated (2 + task_cost others made)
+same_task number count prices others (task.Create register name body stack priority) agree names =
+    let same = agree.body body names.0 names.1 in
     omega arith
-same_task number count costs others other agree names = refl
+same_task number count prices others other agree names = refl
 
-same_line : (number count : ℕ) (costs others : ℕ → ℕ) (made : ScriptCall) → Agree number count costs others → NamesBetween number count made → saturated (line_cost costs made) ≡ saturated (line_cost others made)
-same_line number count costs others (script.Task made) agree names = same_task number count costs others made agree names
-same_line number count costs others other agree names = refl
+same_timebase : (number count : ℕ) (prices others : Prices) (made : TimebaseCall) → Agree number count prices others → saturated (2 + timebase_cost prices made) ≡ saturated (2 + timebase_cost others made)
+same_timebase number count prices others (timebase.Tick id usecs) agree =
+    let same = agree.tick in
+    omega arith
+same_timebase number count prices others other agree = refl
+
+same_line : (number count : ℕ) (prices others : Prices) (made : ScriptCall) → Agree number count prices others → NamesBetween number count made → saturated (line_cost prices made) ≡ saturated (line_cost others made)
+same_line number count prices others (script.Task made) agree names = same_task number count prices others made agree names
+same_line number count prices others (script.Timebase made) agree names = same_timebase number count prices others made agree
+same_line number count prices others other agree names = refl
 
 -- then the levels cost the same
-same_levels : (number count : ℕ) (costs others : ℕ → ℕ) (items : List Item) → Agree number count costs others → AllByRecursion (ItemNames number count) items → map saturated (level_costs costs items) ≡ map saturated (level_costs others items)
-same_levels number count costs others [] agree names = refl
-same_levels number count costs others (item.Call line ∷ items) agree names =
-    saturated-onto (line_cost costs line.call) (level_costs costs items)
-    ∙ ap (λ (x : ℕ). onto_saturated x (map saturated (level_costs costs items))) (same_line number count costs others line.call agree names.0)
-    ∙ ap (onto_saturated (saturated (line_cost others line.call))) (same_levels number count costs others items agree names.1)
+same_levels : (number count : ℕ) (prices others : Prices) (items : List Item) → Agree number count prices others → AllByRecursion (ItemNames number count) items → map saturated (level_costs prices items) ≡ map saturated (level_costs others items)
+same_levels number count prices others [] agree names = refl
+same_levels number count prices others (item.Call line ∷ items) agree names =
+    saturated-onto (line_cost prices line.call) (level_costs prices items)
+    ∙ ap (λ (x : ℕ). onto_saturated x (map saturated (level_costs prices items))) (same_line number count prices others line.call agree names.0)
+    ∙ ap (onto_saturated (saturated (line_cost others line.call))) (same_levels number count prices others items agree names.1)
     ∙ sym (saturated-onto (line_cost others line.call) (level_costs others items))
-same_levels number count costs others (item.Repeat times ∷ items) agree names =
-    sym (saturated-repeated times (level_costs costs items))
-    ∙ ap (repeated_saturated times) (same_levels number count costs others items agree names.1)
+same_levels number count prices others (item.Repeat times ∷ items) agree names =
+    sym (saturated-repeated times (level_costs prices items))
+    ∙ ap (repeated_saturated times) (same_levels number count prices others items agree names.1)
     ∙ saturated-repeated times (level_costs others items)
-same_levels number count costs others (item.End ∷ items) agree names =
-    ap (λ (levels : List ℕ). saturated 0 ∷ levels) (same_levels number count costs others items agree names.1)
+same_levels number count prices others (item.End ∷ items) agree names =
+    ap (λ (levels : List ℕ). saturated 0 ∷ levels) (same_levels number count prices others items agree names.1)
 
 first-saturated : (costs : List ℕ) → first_cost (map saturated costs) ≡ saturated (first_cost costs)
 first-saturated [] = refl
@@ -66,10 +77,10 @@ names_from from count (suc k) (first ∷ bodies) body later is =
     let here : from + 1 + k ≡ from + suc k = omega arith in
     subst (λ (n : ℕ). AllByRecursion (ItemNames n count) body.items) here (names_from (from + 1) count k bodies body later.1 is)
 
--- what the code keeps: the costs of the bodies from a number on
-abbrev pub HaveCosts : List ℕ → ℕ → List ScriptBody → Type 0
-HaveCosts costs number bodies =
-    take (length bodies - number) (drop number costs) ≡ map saturated (costs_from number (drop number bodies))
+-- what the code keeps: the costs of the bodies from a number on, where a tick costs so much
+abbrev pub HaveCosts : ℕ → List ℕ → ℕ → List ScriptBody → Type 0
+HaveCosts tick costs number bodies =
+    take (length bodies - number) (drop number costs) ≡ map saturated (costs_from tick number (drop number bodies))
 
 reads : (costs exact : List ℕ) (number more other : ℕ) → take more (drop number costs) ≡ map saturated exact → number ≤ other → other - number < more → get_or costs other 0 ≡ saturated (get_or exact (other - number) 0)
 reads costs exact number more other have from within =
@@ -87,25 +98,29 @@ two_more : (told cost : ℕ) → told ≡ saturated cost → saturated (told + 2
 two_more told cost same = omega arith
 
 -- one body more
-pub one_cost : (costs : List ℕ) (number : ℕ) (bodies : List ScriptBody) (body : ScriptBody) → length bodies ≤ length costs → NamesLaterFrom 0 (length bodies) bodies → slice_get bodies number ≡ Some body → HaveCosts costs (number + 1) bodies → HaveCosts (set costs number (saturated (saturated (first_cost (level_costs (slice_index costs) body.items)) + 2))) number bodies
-one_cost costs number bodies body room later is have =
+pub one_cost : (tick : ℕ) (prices : kept.Prices) (number : ℕ) (bodies : List ScriptBody) (body : ScriptBody) → prices.tick ≡ saturated tick → length bodies ≤ length prices.bodies → NamesLaterFrom 0 (length bodies) bodies → slice_get bodies number ≡ Some body → HaveCosts tick prices.bodies (number + 1) bodies → HaveCosts tick (set prices.bodies number (saturated (saturated (first_cost (level_costs (prices_of prices) body.items)) + 2))) number bodies
+one_cost tick prices number bodies body told_tick room later is have =
     let count = length bodies in
+    let costs = prices.bodies in
     let here = begins_with bodies number body is in
-    let rest = costs_from (number + 1) (drop (number + 1) bodies) in
-    let exact = λ (other : ℕ). slice_index rest (other - (number + 1)) in
+    let rest = costs_from tick (number + 1) (drop (number + 1) bodies) in
+    let exact : Prices = record { body = λ (other : ℕ). slice_index rest (other - (number + 1)); tick = tick } in
     let names = subst (λ (n : ℕ). AllByRecursion (ItemNames n count) body.items) (zero-add number) (names_from 0 count number bodies body later is) in
-    let agree : Agree number count (slice_index costs) exact =
-    λ (other : ℕ) behind below. saturated_twice _ _ (reads costs rest (number + 1) (count - (number + 1)) other have (omega arith) (omega arith)) in
-    let levels = same_levels number count (slice_index costs) exact body.items agree names in
-    let told : saturated (first_cost (level_costs (slice_index costs) body.items)) ≡ saturated (first_cost (level_costs exact body.items)) =
-    sym (first-saturated (level_costs (slice_index costs) body.items))
+    let agree : Agree number count (prices_of prices) exact = record {
+      body =
+          λ (other : ℕ) behind below. saturated_twice _ _ (reads costs rest (number + 1) (count - (number + 1)) other have (omega arith) (omega arith));
+      tick = saturated_twice prices.tick tick told_tick;
+    } in
+    let levels = same_levels number count (prices_of prices) exact body.items agree names in
+    let told : saturated (first_cost (level_costs (prices_of prices) body.items)) ≡ saturated (first_cost (level_costs exact body.items)) =
+    sym (first-saturated (level_costs (prices_of prices) body.items))
     ∙ ap first_cost levels
     ∙ first-saturated (level_costs exact body.items) in
     let one = two_more _ (first_cost (level_costs exact body.items)) told in
     let more : count - number ≡ suc (count - (number + 1)) = omega (arith, here.0) in
-    let cost = saturated (saturated (first_cost (level_costs (slice_index costs) body.items)) + 2) in
+    let cost = saturated (saturated (first_cost (level_costs (prices_of prices) body.items)) + 2) in
     ap (take (count - number)) (drop-set costs number cost (omega (arith, here.0)))
     ∙ ap (λ (n : ℕ). take n (cost ∷ drop (number + 1) costs)) more
     ∙ ap (λ (costs_behind : List ℕ). cost ∷ costs_behind) have
     ∙ ap (λ (first : ℕ). first ∷ map saturated rest) one
-    ∙ sym (ap (λ (from : List ScriptBody). map saturated (costs_from number from)) here.1)
+    ∙ sym (ap (λ (from : List ScriptBody). map saturated (costs_from tick number from)) here.1)

@@ -4,7 +4,7 @@ use Rattle.std.proofs.lemmas.Bool.{cases_lt}
 use Rattle.std.proofs.lemmas.List.{drop_more, length-map}
 use Rattle.osal_script.specs.declared.app.Item.{Item}
 use Rattle.osal_script.specs.declared.app.Item.TheVariants as item
-use Rattle.osal_script.specs.Cost.{onto_cost, repeated_cost, level_costs, line_cost}
+use Rattle.osal_script.specs.Cost.{Prices, onto_cost, repeated_cost, level_costs, line_cost}
 use Rattle.osal_script.specs.Nesting.{depth_after, IsNested}
 use Rattle.osal_script.specs.Saturated.{saturated, repeated_saturated}
 use Rattle.osal_script.proofs.Nesting.{repeat_nested, end_nested}
@@ -19,24 +19,24 @@ length_repeated count (level ∷ []) more = absurd (omega arith)
 length_repeated count (level ∷ next ∷ levels) more = omega arith
 
 -- items behind which so many repeats end have one level more
-pub length_levels : (cost_of_body : ℕ → ℕ) (depth : ℕ) (items : List Item) → depth_after depth items ≡ Some 0 → length (level_costs cost_of_body items) ≡ depth + 1
-length_levels cost_of_body depth [] nested =
+pub length_levels : (prices : Prices) (depth : ℕ) (items : List Item) → depth_after depth items ≡ Some 0 → length (level_costs prices items) ≡ depth + 1
+length_levels prices depth [] nested =
     let none : depth ≡ 0 = cc in
     omega arith
-length_levels cost_of_body depth (item.Call line ∷ items) nested =
-    let levels = length_levels cost_of_body depth items nested in
-    length_onto (line_cost cost_of_body line.call) (level_costs cost_of_body items) (omega (arith, levels)) ∙ levels
-length_levels cost_of_body depth (item.Repeat count ∷ items) nested =
-    let levels = length_levels cost_of_body (depth + 1) items (repeat_nested depth count 0 items nested).2 in
-    omega (arith, levels, length_repeated count (level_costs cost_of_body items) (omega (arith, levels)))
-length_levels cost_of_body depth (item.End ∷ items) nested =
+length_levels prices depth (item.Call line ∷ items) nested =
+    let levels = length_levels prices depth items nested in
+    length_onto (line_cost prices line.call) (level_costs prices items) (omega (arith, levels)) ∙ levels
+length_levels prices depth (item.Repeat count ∷ items) nested =
+    let levels = length_levels prices (depth + 1) items (repeat_nested depth count 0 items nested).2 in
+    omega (arith, levels, length_repeated count (level_costs prices items) (omega (arith, levels)))
+length_levels prices depth (item.End ∷ items) nested =
     let both = end_nested depth 0 items nested in
-    omega (arith, both.0, length_levels cost_of_body (depth - 1) items both.1)
+    omega (arith, both.0, length_levels prices (depth - 1) items both.1)
 
 -- as many as 64 bits tell of them
-pub length_saturated : (cost_of_body : ℕ → ℕ) (depth : ℕ) (items : List Item) → depth_after depth items ≡ Some 0 → length (map saturated (level_costs cost_of_body items)) ≡ depth + 1
-length_saturated cost_of_body depth items nested =
-    length-map (level_costs cost_of_body items) saturated ∙ length_levels cost_of_body depth items nested
+pub length_saturated : (prices : Prices) (depth : ℕ) (items : List Item) → depth_after depth items ≡ Some 0 → length (map saturated (level_costs prices items)) ≡ depth + 1
+length_saturated prices depth items nested =
+    length-map (level_costs prices items) saturated ∙ length_levels prices depth items nested
 
 nested_from : (depth at : ℕ) (items : List Item) → depth ≤ 4 → depth_after depth items ≡ Some 0 → (here : ℕ) × (here ≤ 4) × (depth_after here (drop at items) ≡ Some 0)
 nested_from depth zero items deep nested = (depth, deep, nested)

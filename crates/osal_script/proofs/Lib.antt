@@ -5,6 +5,9 @@ pub mod Levels
 pub mod Passing
 pub mod Costs
 pub mod Bodies
+pub mod Dearest
+pub mod Groups
+pub mod Frames
 pub mod Digits
 pub mod Lines
 pub mod Splitting
@@ -15,5 +18,6 @@ pub mod Declaring
 pub mod Begun
 pub mod Lookups
 pub mod Creations
+pub mod Bare
 pub mod Later
 pub mod Sound

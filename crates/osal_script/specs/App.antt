@@ -1,11 +1,14 @@
 -- An application: what a contract sees of it.
-use Rattle.std.specs.Prelude.{◌<◌, ◌+◌, ◌++◌, List, [], ◌∷◌, ℕ, zero, suc, length}
+use Rattle.std.specs.Prelude.{◌≡◌, ◌<◌, ◌+◌, ◌++◌, List, [], ◌∷◌, ℕ, zero, suc, Bool, true, false, length}
 use Rattle.std.specs.List.{AllByRecursion}
 use Rattle.osal_script.specs.declared.app.BodyKind.{BodyKind}
+use Rattle.osal_script.specs.declared.app.BodyKind.TheVariants as kind
 use Rattle.osal_script.specs.declared.app.ScriptCall.{ScriptCall}
 use Rattle.osal_script.specs.declared.app.ScriptCall.TheVariants as script
 use Rattle.osal_script.specs.declared.tasks.TaskCall.{TaskCall}
 use Rattle.osal_script.specs.declared.tasks.TaskCall.TheVariants as task
+use Rattle.osal_script.specs.declared.timebases.TimebaseCall.{TimebaseCall}
+use Rattle.osal_script.specs.declared.timebases.TimebaseCall.TheVariants as timebase
 use Rattle.osal_script.specs.declared.app.Line.{Line}
 use Rattle.osal_script.specs.declared.app.Item.{Item}
 use Rattle.osal_script.specs.declared.app.Item.TheVariants as item
@@ -79,3 +82,39 @@ NamesLaterFrom number count (body ∷ bodies) =
 -- each body of an application names later ones alone
 abbrev pub NamesLater : Application → Type 0
 NamesLater app = NamesLaterFrom 0 (length app.bodies) app.bodies
+
+-- whether a call on tasks creates one
+abbrev pub is_task_creation : TaskCall → Bool
+is_task_creation (task.Create register name body stack priority) = true
+is_task_creation other = false
+
+-- whether a call on timebases is a tick
+abbrev pub is_tick : TimebaseCall → Bool
+is_tick (timebase.Tick id usecs) = true
+is_tick other = false
+
+-- whether a line is a tick
+abbrev pub is_tick_line : ScriptCall → Bool
+is_tick_line (script.Timebase call) = is_tick call
+is_tick_line other = false
+
+-- a line that neither creates a task nor ticks
+abbrev pub IsBare : ScriptCall → Type 0
+IsBare (script.Task call) = is_task_creation call ≡ false
+IsBare (script.Timebase call) = is_tick call ≡ false
+IsBare other = Unit {0}
+
+-- the same of each line among some items
+abbrev pub ItemIsBare : Item → Type 0
+ItemIsBare (item.Call line) = IsBare line.call
+ItemIsBare (item.Repeat count) = Unit {0}
+ItemIsBare item.End = Unit {0}
+
+-- a handler neither creates tasks nor ticks
+abbrev pub HandlerIsBare : BodyKind → List Item → Type 0
+HandlerIsBare kind.Handler items = AllByRecursion ItemIsBare items
+HandlerIsBare kind.Task items = Unit {0}
+
+-- no handler of an application creates tasks or ticks
+abbrev pub HandlersAreBare : Application → Type 0
+HandlersAreBare app = AllByRecursion (λ (body : ScriptBody). HandlerIsBare body.kind body.items) app.bodies

@@ -1,8 +1,8 @@
 -- The lines that begin and end bodies and repeats.
-use Rattle.std.specs.Prelude.{◌^◌, ◌+◌, ◌-◌, ◌||◌, ◌++◌, List, [], ◌∷◌, ℕ, Bool, true, false, Option, Some, None, Result, Ok, Err, length, take, slice_get, nat_lt, nat_le, if◌then◌else◌}
+use Rattle.std.specs.Prelude.{◌^◌, ◌+◌, ◌-◌, ◌||◌, ◌&&◌, ◌==◌, ◌++◌, List, [], ◌∷◌, ℕ, Bool, true, false, Option, Some, None, Result, Ok, Err, length, take, slice_get, nat_lt, nat_le, if◌then◌else◌}
 use Rattle.std.specs.List.{list_any}
 use Rattle.std.specs.Str.{bytes_eq}
-use Rattle.osal_script.specs.declared.app.BodyKind.TheVariants as kind
+use Rattle.osal_script.specs.declared.app.BodyKind.{BodyKind}
 use Rattle.osal_script.specs.declared.app.Item.{Item}
 use Rattle.osal_script.specs.declared.app.Item.TheVariants as item
 use Rattle.osal_script.specs.declared.fault.FaultKind.{FaultKind}
@@ -11,29 +11,32 @@ use Rattle.osal_script.specs.App.{ScriptBody}
 use Rattle.osal_script.specs.Values.{is_body_name, number_below}
 use Rattle.osal_script.specs.Registers.{no_registers}
 use Rattle.osal_script.specs.Draft.{OpenBody, Reading}
+use Rattle.osal_script.specs.Handlers.{is_handler}
 
 -- whether some body has the name
 abbrev pub is_taken : List ScriptBody → List ℕ → Bool
 is_taken bodies name = list_any (λ body. bytes_eq body.name name) bodies
 
 -- a body without items
-abbrev pub empty_body : List ℕ → OpenBody
-empty_body name = record { name = name; items = []; count = 0; repeats = 0; registers = no_registers }
+abbrev pub empty_body : BodyKind → List ℕ → OpenBody
+empty_body kind name =
+    record { name = name; kind = kind; items = []; count = 0; repeats = 0; registers = no_registers }
 
--- a body of that name is open: its name is one, the bodies are at most 64, and no body has the name
-abbrev pub begin_body : Reading → List (List ℕ) → Result Reading FaultKind
-begin_body reading (name ∷ []) =
+-- a body of that kind and name is open: its name is one, the bodies are at most 64, and no body has the name
+abbrev pub begin_body : Reading → BodyKind → List (List ℕ) → Result Reading FaultKind
+begin_body reading kind (name ∷ []) =
     if is_body_name name
     then (if nat_le 64 (length reading.bodies) then Err fault.Many
     else (if is_taken reading.bodies name then Err fault.Body
-    else Ok (record reading { open_body = Some (empty_body name) })))
+    else Ok (record reading { open_body = Some (empty_body kind name) })))
     else Err fault.Argument
-begin_body reading words = Err fault.Argument
+begin_body reading kind words = Err fault.Argument
 
--- a line `task`: no body may be open
-abbrev pub read_task : Reading → Option OpenBody → List (List ℕ) → Result Reading FaultKind
-read_task reading (Some body) words = Err fault.Place
-read_task reading None words = begin_body reading words
+-- a line `task` or `handler`: no body may be open, and the first is a task
+abbrev pub read_body : Reading → BodyKind → Option OpenBody → List (List ℕ) → Result Reading FaultKind
+read_body reading kind (Some body) words = Err fault.Place
+read_body reading kind None words =
+    if is_handler kind && (length reading.bodies == 0) then Err fault.Place else begin_body reading kind words
 
 -- the reading with what became of its open body
 abbrev pub with_body : Reading → Result OpenBody FaultKind → Result Reading FaultKind
@@ -51,11 +54,16 @@ begin_repeat body (Some times) =
       repeats = body.repeats + 1;
     })
 
--- a line `repeat` stands in a body, with its count
+-- the count of a repeat in a body
+abbrev pub repeat_in : Reading → OpenBody → List (List ℕ) → Result Reading FaultKind
+repeat_in reading body (times ∷ []) = with_body reading (begin_repeat body (number_below (2 ^ 32) times))
+repeat_in reading body words = Err fault.Argument
+
+-- a line `repeat` stands in a task's body, with its count
 abbrev pub read_repeat : Reading → Option OpenBody → List (List ℕ) → Result Reading FaultKind
 read_repeat reading None words = Err fault.Place
-read_repeat reading (Some body) (times ∷ []) = with_body reading (begin_repeat body (number_below (2 ^ 32) times))
-read_repeat reading (Some body) words = Err fault.Argument
+read_repeat reading (Some body) words =
+    if is_handler body.kind then Err fault.Place else repeat_in reading body words
 
 -- whether an item begins a repeat
 abbrev pub is_repeat : Item → Bool
@@ -82,7 +90,7 @@ end_repeat body = record body { items = closed body.items; repeats = body.repeat
 
 -- a body that is done
 abbrev pub finished : OpenBody → ScriptBody
-finished body = record { name = body.name; kind = kind.Task; items = body.items }
+finished body = record { name = body.name; kind = body.kind; items = body.items }
 
 -- the end of the innermost repeat, or of the body where none is open
 abbrev pub end_block : Reading → OpenBody → Reading

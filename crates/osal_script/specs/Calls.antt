@@ -18,6 +18,10 @@ use Rattle.osal_script.specs.declared.mutexes.MutexCall.{MutexCall}
 use Rattle.osal_script.specs.declared.mutexes.MutexCall.TheVariants as mutex
 use Rattle.osal_script.specs.declared.condvars.CondvarCall.{CondvarCall}
 use Rattle.osal_script.specs.declared.condvars.CondvarCall.TheVariants as condvar
+use Rattle.osal_script.specs.declared.timebases.TimebaseCall.{TimebaseCall}
+use Rattle.osal_script.specs.declared.timebases.TimebaseCall.TheVariants as timebase
+use Rattle.osal_script.specs.declared.timers.TimerCall.{TimerCall}
+use Rattle.osal_script.specs.declared.timers.TimerCall.TheVariants as timer
 
 -- the call on a task that a line makes under the registers
 abbrev pub task_call : TaskCall → List ℕ → Call
@@ -77,6 +81,23 @@ condvar_call (condvar.Wait id wait) registers = call.CondvarWait (slice_index re
 condvar_call (condvar.Delete id) registers = call.CondvarDelete (slice_index registers id)
 condvar_call (condvar.Find register name) registers = call.CondvarFind (text_of name)
 
+-- the call on a timebase that a line makes under the registers
+abbrev pub timebase_call : TimebaseCall → List ℕ → Call
+timebase_call (timebase.Create register name) registers = call.TimebaseCreate (text_of name)
+timebase_call (timebase.Tick id usecs) registers = call.TimebaseTick (slice_index registers id) usecs
+timebase_call (timebase.FreeRun id) registers = call.TimebaseFreeRun (slice_index registers id)
+timebase_call (timebase.Delete id) registers = call.TimebaseDelete (slice_index registers id)
+timebase_call (timebase.Find register name) registers = call.TimebaseFind (text_of name)
+
+-- the call on a timer that a line makes under the registers
+abbrev pub timer_call : TimerCall → List ℕ → Call
+timer_call (timer.Add register name id handler) registers =
+    call.TimerAdd (text_of name) (slice_index registers id) handler
+timer_call (timer.Set id start interval) registers = call.TimerSet (slice_index registers id) start interval
+timer_call (timer.Delete id) registers = call.TimerDelete (slice_index registers id)
+timer_call (timer.Find register name) registers = call.TimerFind (text_of name)
+timer_call (timer.Info id) registers = call.TimerInfo (slice_index registers id)
+
 -- the call that a line makes under the registers
 abbrev pub call_of : ScriptCall → List ℕ → Call
 call_of (script.Task made) registers = task_call made registers
@@ -85,6 +106,8 @@ call_of (script.CountSem made) registers = count_sem_call made registers
 call_of (script.BinSem made) registers = bin_sem_call made registers
 call_of (script.Mutex made) registers = mutex_call made registers
 call_of (script.Condvar made) registers = condvar_call made registers
+call_of (script.Timebase made) registers = timebase_call made registers
+call_of (script.Timer made) registers = timer_call made registers
 call_of (script.Hold id) registers = call.Hold (slice_index registers id)
 call_of (script.Release id) registers = call.Release (slice_index registers id)
 
@@ -129,6 +152,18 @@ condvar_register (condvar.Create register name) = Some register
 condvar_register (condvar.Find register name) = Some register
 condvar_register other = None
 
+-- the register that the success of a call on a timebase sets
+abbrev pub timebase_register : TimebaseCall → Option ℕ
+timebase_register (timebase.Create register name) = Some register
+timebase_register (timebase.Find register name) = Some register
+timebase_register other = None
+
+-- the register that the success of a call on a timer sets
+abbrev pub timer_register : TimerCall → Option ℕ
+timer_register (timer.Add register name id handler) = Some register
+timer_register (timer.Find register name) = Some register
+timer_register other = None
+
 -- the register that a line's success sets
 abbrev pub register_of : ScriptCall → Option ℕ
 register_of (script.Task made) = task_register made
@@ -137,5 +172,7 @@ register_of (script.CountSem made) = count_sem_register made
 register_of (script.BinSem made) = bin_sem_register made
 register_of (script.Mutex made) = mutex_register made
 register_of (script.Condvar made) = condvar_register made
+register_of (script.Timebase made) = timebase_register made
+register_of (script.Timer made) = timer_register made
 register_of (script.Hold id) = None
 register_of (script.Release id) = None

@@ -9,7 +9,7 @@ use Rattle.osal_script.specs.declared.cursor.Step.{Step}
 use Rattle.osal_script.specs.declared.cursor.Step.TheVariants as step
 use Rattle.osal_script.specs.declared.phase.Phase.{Phase}
 use Rattle.osal_script.specs.declared.phase.Phase.TheVariants as phase
-use Rattle.osal_script.specs.Script.{Pending, ScriptState, line_call, after}
+use Rattle.osal_script.specs.Script.{Pending, Frames, ScriptState, frame_at, line_call, after}
 
 -- the call that comes in a phase, if nobody deletes the task in a wait
 abbrev pub call_in : Phase → ScriptState → Option Call
@@ -37,6 +37,11 @@ moved state (Some reply) = answered state (next_call state) reply
 abbrev pub first_line : List Pending → Option Line
 first_line [] = None
 first_line (next ∷ pending) = Some next.line
+
+-- the registers that it uses, or the body's before the exit
+abbrev pub first_frame : List Pending → Frames → List ℕ
+first_frame [] frames = frames.body
+first_frame (next ∷ pending) frames = frame_at frames next.frame
 
 -- the number of a line, or 0 before the exit
 abbrev pub line_number : Option Line → ℕ

@@ -1,13 +1,15 @@
 -- How far a text is read.
 use Rattle.std.specs.Prelude.{◌+◌, List, [], ℕ, Bool, false, Option, Some, None, length}
+use Rattle.osal_script.specs.declared.app.BodyKind.{BodyKind}
 use Rattle.osal_script.specs.declared.app.Item.{Item}
 use Rattle.osal_script.specs.App.{ScriptBody}
 use Rattle.osal_script.specs.Registers.{Registers}
 
--- a body whose end is still to come: its items, how many they are with those of repeats that are left out, and how
+-- a body whose end is still to come: what runs it, its items, how many they are with those of repeats that are left out, and how
 -- many repeats are open
 pub record OpenBody : Type 0 where
   pub name : List ℕ
+  pub kind : BodyKind
   pub items : List Item
   pub count : ℕ
   pub repeats : ℕ

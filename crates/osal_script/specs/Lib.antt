@@ -6,6 +6,7 @@ pub mod App
 pub mod Nesting
 pub mod Calls
 pub mod Script
+pub mod Handling
 pub mod Cursor
 pub mod Cost
 pub mod Saturated
@@ -29,6 +30,9 @@ pub mod Counting
 pub mod Binary
 pub mod Mutexes
 pub mod Condvars
+pub mod Timebases
+pub mod Timers
+pub mod Handlers
 pub mod Grammar
 pub mod Expectation
 pub mod Draft

@@ -6,7 +6,7 @@ use Rattle.osal_script.specs.declared.fault.ParseFault.{ParseFault}
 use Rattle.osal_script.specs.declared.fault.ParseFault.TheVariants as fault
 use Rattle.osal_script.specs.declared.fault.Stop.{Stop}
 use Rattle.osal_script.specs.declared.fault.Stop.TheVariants as stop
-use Rattle.osal_script.specs.App.{Application, NamesLater}
+use Rattle.osal_script.specs.App.{Application, NamesLater, HandlersAreBare}
 
 -- a line was not read by the rule that it breaks
 abbrev pub Stops : {Y : Type 0} → Stop → Result Y FaultKind → Type 0
@@ -35,6 +35,7 @@ RefusesAt (fault.Bad bad) number stop.OutOfMemory = ⊥
 RefusesAt fault.OutOfMemory number (stop.Rule kind) = ⊥
 RefusesAt fault.OutOfMemory number stop.OutOfMemory = Unit {0}
 
--- what every application that a text spells keeps: it has at most 64 bodies, and each names later ones alone
+-- what every application that a text spells keeps: it has at most 64 bodies, each names later ones alone, and no
+-- handler creates tasks or ticks
 abbrev pub IsSound : Application → Type 0
-IsSound app = (length app.bodies ≤ 64) × NamesLater app
+IsSound app = (length app.bodies ≤ 64) × NamesLater app × HandlersAreBare app

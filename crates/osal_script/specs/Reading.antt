@@ -2,6 +2,8 @@
 use Rattle.std.specs.Prelude.{◌==◌, ◌+◌, ◌-◌, ◌||◌, ◌&&◌, ◌++◌, List, [], ◌∷◌, ℕ, Bool, true, false, not, Option, Some, None, Result, Ok, Err, codes, length, nat_lt, nat_le, is_some, if◌then◌else◌}
 use Rattle.std.specs.List.{list_all}
 use Rattle.std.specs.Str.{bytes_eq}
+use Rattle.osal_script.specs.declared.app.BodyKind.{BodyKind}
+use Rattle.osal_script.specs.declared.app.BodyKind.TheVariants as kind
 use Rattle.osal_script.specs.declared.app.Item.TheVariants as item
 use Rattle.osal_script.specs.declared.app.ScriptCall.{ScriptCall}
 use Rattle.osal_script.specs.declared.app.Expect.{Expect}
@@ -19,7 +21,8 @@ use Rattle.osal_script.specs.Registers.{Registers}
 use Rattle.osal_script.specs.Grammar.{call_of_words}
 use Rattle.osal_script.specs.Expectation.{before_arrow, from_arrow, expectation_of}
 use Rattle.osal_script.specs.Draft.{OpenBody, Reading, unread, begun}
-use Rattle.osal_script.specs.Blocks.{with_body, read_task, read_repeat, read_end}
+use Rattle.osal_script.specs.Handlers.{is_handler, needs_task, may_wait}
+use Rattle.osal_script.specs.Blocks.{with_body, read_body, read_repeat, read_end}
 
 -- the body with one more call line
 abbrev pub with_line : OpenBody → ℕ → ScriptCall × Registers → Option Expect → OpenBody
@@ -30,31 +33,36 @@ with_line body number call expect =
       registers = call.1;
     }
 
--- a call line whose words are right is too many for its body, names a body that is not declared later, or joins it
+-- a call line whose words are right waits where it may not, is too many for its body, names a body that is not declared
+-- later, or joins it
 abbrev pub join_line : OpenBody → ℕ → Option (ScriptCall × Registers) → Option (Option Expect) → Result OpenBody FaultKind
 join_line body number None expect = Err fault.Argument
 join_line body number (Some call) None = Err fault.Argument
 join_line body number (Some call) (Some expect) =
-    if call.1.over || nat_le 4096 body.count then Err fault.Many
+    if is_handler body.kind && may_wait call.0 then Err fault.Argument
+    else (if call.1.over || nat_le 4096 body.count then Err fault.Many
     else (if call.1.undeclared then Err fault.Body
-    else Ok (with_line body number call expect))
+    else Ok (with_line body number call expect)))
 
--- what a call line makes of its body, where later lines declare bodies of these numbers
-abbrev pub body_after : (List ℕ → Option ℕ) → OpenBody → ℕ → CallWord → List (List ℕ) → Result OpenBody FaultKind
+-- what a call line makes of its body, where later lines declare bodies of these kinds and numbers
+abbrev pub body_after : (BodyKind → List ℕ → Option ℕ) → OpenBody → ℕ → CallWord → List (List ℕ) → Result OpenBody FaultKind
 body_after later body number call words =
     join_line body number (call_of_words later call (before_arrow words) body.registers) (expectation_of (from_arrow words))
 
--- a call line stands in a body
-abbrev pub read_call : (List ℕ → Option ℕ) → Reading → Option OpenBody → ℕ → CallWord → List (List ℕ) → Result Reading FaultKind
+-- a call line stands in a body: in a handler none that only a task may make
+abbrev pub read_call : (BodyKind → List ℕ → Option ℕ) → Reading → Option OpenBody → ℕ → CallWord → List (List ℕ) → Result Reading FaultKind
 read_call later reading None number call words = Err fault.Place
-read_call later reading (Some body) number call words = with_body reading (body_after later body number call words)
+read_call later reading (Some body) number call words =
+    if is_handler body.kind && needs_task call then Err fault.Place
+    else with_body reading (body_after later body number call words)
 
 -- a line after the header, by its first word
-abbrev pub read_by_word : (List ℕ → Option ℕ) → Reading → ℕ → Option FirstWord → List (List ℕ) → Result Reading FaultKind
+abbrev pub read_by_word : (BodyKind → List ℕ → Option ℕ) → Reading → ℕ → Option FirstWord → List (List ℕ) → Result Reading FaultKind
 read_by_word later reading number None words = Err fault.Word
 read_by_word later reading number (Some first.Unbuilt) words = Err fault.Unbuilt
 read_by_word later reading number (Some first.Header) words = Err fault.Place
-read_by_word later reading number (Some first.Task) words = read_task reading reading.open_body words
+read_by_word later reading number (Some first.Task) words = read_body reading kind.Task reading.open_body words
+read_by_word later reading number (Some first.Handler) words = read_body reading kind.Handler reading.open_body words
 read_by_word later reading number (Some first.Repeat) words = read_repeat reading reading.open_body words
 read_by_word later reading number (Some first.End) words = read_end reading reading.open_body words
 read_by_word later reading number (Some (first.Call call)) words =
@@ -71,7 +79,7 @@ is_header (name ∷ version ∷ []) = bytes_eq name (codes "osal-app") && bytes_
 is_header words = false
 
 -- the words of a line: none and a comment are skipped, and the first other line is the header
-abbrev pub read_words : (List ℕ → Option ℕ) → Reading → ℕ → List (List ℕ) → Result Reading FaultKind
+abbrev pub read_words : (BodyKind → List ℕ → Option ℕ) → Reading → ℕ → List (List ℕ) → Result Reading FaultKind
 read_words later reading number [] = Ok reading
 read_words later reading number (word ∷ words) =
     if is_comment word then Ok reading
@@ -80,7 +88,7 @@ read_words later reading number (word ∷ words) =
     else Err fault.Header))
 
 -- a line of that number
-abbrev pub read_line : (List ℕ → Option ℕ) → Reading → ℕ → List ℕ → Result Reading FaultKind
+abbrev pub read_line : (BodyKind → List ℕ → Option ℕ) → Reading → ℕ → List ℕ → Result Reading FaultKind
 read_line later reading number line =
     if nat_lt 255 (length line) then Err fault.Long
     else (if list_all is_line_byte line then read_words later reading number (words_of line)

@@ -1,4 +1,4 @@
--- What the lines of a body name: its registers, and the bodies of the tasks that it creates.
+-- What the lines of a body name: its registers, and the bodies of tasks and handlers.
 use Rattle.std.specs.Prelude.{◌+◌, ◌++◌, List, [], ◌∷◌, ℕ, Bool, true, false, Option, Some, None, length, nat_lt, option_map, if◌then◌else◌}
 use Rattle.std.specs.Str.{bytes_eq}
 use Rattle.osal_script.specs.Values.{register_name, is_body_name}

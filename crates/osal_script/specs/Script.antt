@@ -1,5 +1,6 @@
 -- What a script calls: the lines in their order, each behind a checkpoint, and then the exit.
-use Rattle.std.specs.Prelude.{◌≡◌, ◌⊎◌, ◌%◌, ◌^◌, List, [], ◌∷◌, ℕ, zero, suc, Bool, Option, Some, None, true, false, map, replicate, slice_set, if◌then◌else◌}
+use Rattle.std.specs.Prelude.{◌≡◌, ◌⊎◌, ◌%◌, ◌^◌, ◌++◌, ◌&&◌, List, [], ◌∷◌, ℕ, zero, suc, Bool, Option, Some, None, true, false, map, length, take, drop, nat_lt, replicate, slice_get, slice_set, if◌then◌else◌}
+use Rattle.std.specs.Int.{from_be_bytes, w32}
 use Rattle.osal_base.specs.declared.reply.Answer.{Answer}
 use Rattle.osal_base.specs.declared.reply.Answer.TheVariants as answer
 use Rattle.osal_base.specs.Reply.{Replied, reply_of, is_waits}
@@ -8,6 +9,9 @@ use Rattle.osal_machine.specs.declared.call.Call.{Call}
 use Rattle.osal_machine.specs.declared.call.Call.TheVariants as call
 use Rattle.osal_machine.specs.declared.call.Entry.{Entry}
 use Rattle.osal_machine.specs.Call.{said, part_of}
+use Rattle.osal_time.specs.Timebase.{timer_limit}
+use Rattle.osal_script.specs.declared.app.BodyKind.{BodyKind}
+use Rattle.osal_script.specs.declared.app.BodyKind.TheVariants as kind
 use Rattle.osal_script.specs.declared.app.ScriptCall.{ScriptCall}
 use Rattle.osal_script.specs.declared.app.ScriptCall.TheVariants as script
 use Rattle.osal_script.specs.declared.tasks.TaskCall.{TaskCall}
@@ -15,45 +19,114 @@ use Rattle.osal_script.specs.declared.tasks.TaskCall.TheVariants as task
 use Rattle.osal_script.specs.declared.app.Line.{Line}
 use Rattle.osal_script.specs.declared.phase.Phase.{Phase}
 use Rattle.osal_script.specs.declared.phase.Phase.TheVariants as phase
-use Rattle.osal_script.specs.App.{ScriptBody, lines_of}
+use Rattle.osal_script.specs.App.{ScriptBody, lines_of, is_tick_line}
 use Rattle.osal_script.specs.Calls.{call_of, register_of}
 
--- a line that is still to come, and the number of the frame whose registers it uses
+-- whose registers a line uses: its body's; or a handler's, which are new with the handler's first line
+pub data Frame : Type 0 where
+  OfBody : Frame
+  BeginsHandler : Frame
+  OfHandler : Frame
+
+-- a line that is still to come
 pub record Pending : Type 0 where
   pub line : Line
-  pub frame : ℕ
+  pub frame : Frame
 
--- how far a script has come: what comes next, the lines that are still to come, and the registers of each frame
+-- the registers of the body, and those of the handler that runs or has run
+pub record Frames : Type 0 where
+  pub body : List ℕ
+  pub handler : List ℕ
+
+-- how far a script has come: what comes next, the lines that are still to come, the registers, and the bodies of the
+-- application, for the handlers among them
 pub record ScriptState : Type 0 where
   pub phase : Phase
   pub pending : List Pending
-  pub frames : List (List ℕ)
+  pub frames : Frames
+  pub bodies : List ScriptBody
 
--- a line of the body itself, which has the first frame
+-- registers that nothing has set
+abbrev pub fresh : List ℕ
+fresh = replicate 32 0
+
+-- a line of the body itself
 abbrev pub in_body : Line → Pending
-in_body line = record { line = line; frame = 0 }
+in_body line = record { line = line; frame = OfBody }
+
+-- a line of a handler that has begun
+abbrev pub in_handler : Line → Pending
+in_handler line = record { line = line; frame = OfHandler }
+
+-- the lines of a handler: its registers are new with the first
+abbrev pub of_handler : List Line → List Pending
+of_handler [] = []
+of_handler (line ∷ lines) = record { line = line; frame = BeginsHandler } ∷ map in_handler lines
 
 -- the start of a body's script, with each register at 0
-abbrev pub start_of : ScriptBody → ScriptState
-start_of body =
-    record { phase = phase.Before; pending = map in_body (lines_of body); frames = replicate 32 0 ∷ [] }
+abbrev pub start_of : List ScriptBody → ScriptBody → ScriptState
+start_of bodies body = record {
+  phase = phase.Before;
+  pending = map in_body (lines_of body);
+  frames = record { body = fresh; handler = fresh };
+  bodies = bodies;
+}
 
--- the registers of a frame
-abbrev pub frame_at : List (List ℕ) → ℕ → List ℕ
-frame_at [] frame = []
-frame_at (registers ∷ frames) zero = registers
-frame_at (registers ∷ frames) (suc frame) = frame_at frames frame
+-- the registers that a line uses
+abbrev pub frame_at : Frames → Frame → List ℕ
+frame_at frames OfBody = frames.body
+frame_at frames BeginsHandler = fresh
+frame_at frames OfHandler = frames.handler
 
--- the frames with other registers in one
-abbrev pub with_frame : List (List ℕ) → ℕ → List ℕ → List (List ℕ)
-with_frame [] frame after = []
-with_frame (registers ∷ frames) zero after = after ∷ frames
-with_frame (registers ∷ frames) (suc frame) after = registers ∷ with_frame frames frame after
+-- the frames with what a line left in its registers
+abbrev pub with_frame : Frames → Frame → List ℕ → Frames
+with_frame frames OfBody after = record frames { body = after }
+with_frame frames BeginsHandler after = record frames { handler = after }
+with_frame frames OfHandler after = record frames { handler = after }
 
 -- the call of the line that comes next, or the exit where there is none
-abbrev pub line_call : List Pending → List (List ℕ) → Call
+abbrev pub line_call : List Pending → Frames → Call
 line_call [] frames = call.TaskExit
 line_call (next ∷ pending) frames = call_of next.line.call (frame_at frames next.frame)
+
+-- the number of the handler in a group of a tick's bytes: the last four of its twelve
+abbrev pub group_number : List ℕ → ℕ
+group_number group = from_be_bytes w32 (take 4 (drop 8 group))
+
+-- the numbers of the handlers in a tick's bytes, from so many whole groups at most
+unfoldable pub handler_numbers : ℕ → List ℕ → List ℕ
+handler_numbers zero bytes = []
+handler_numbers (suc n) bytes =
+    if nat_lt (length bytes) 12 then [] else group_number bytes ∷ handler_numbers n (drop 12 bytes)
+
+-- the lines of a body, where it is a handler
+abbrev pub lines_if_handler : BodyKind → ScriptBody → List Pending
+lines_if_handler kind.Handler body = of_handler (lines_of body)
+lines_if_handler kind.Task body = []
+
+-- the lines of a body that may be there, where it is a handler
+abbrev pub handler_lines : Option ScriptBody → List Pending
+handler_lines None = []
+handler_lines (Some body) = lines_if_handler body.kind body
+
+-- the lines of the handlers of these numbers, in order
+abbrev pub put_in : List ScriptBody → List ℕ → List Pending
+put_in bodies [] = []
+put_in bodies (number ∷ numbers) = handler_lines (slice_get bodies number) ++ put_in bodies numbers
+
+-- whether a line is the body's own
+abbrev pub is_of_body : Frame → Bool
+is_of_body OfBody = true
+is_of_body BeginsHandler = false
+is_of_body OfHandler = false
+
+-- what a line puts before those that are still to come: a tick of the body that succeeds, the handlers of the timers
+-- that fired. No tick fires more timers than one timebase may have, and no handler ticks
+abbrev pub fired : List ScriptBody → Pending → Replied → List Pending
+fired bodies next reply =
+    if is_of_body next.frame && is_tick_line next.line.call && is_success reply.answer
+    then put_in bodies (handler_numbers timer_limit reply.bytes)
+    else []
 
 -- the registers after a reply; an identifier is the number of a reply, in 32 bits
 abbrev pub registers_after : Option ℕ → Replied → List ℕ → List ℕ
@@ -77,12 +150,13 @@ phase_after_line made reply =
     if is_exit_line made then (if is_success reply then phase.Ended else phase.Before) else phase.Before
 
 -- a line that was answered is done; the exit behind the last line ends the script whatever its answer
-abbrev pub after_answer : List Pending → List (List ℕ) → Replied → ScriptState
-after_answer [] frames reply = record { phase = phase.Ended; pending = []; frames = frames }
-after_answer (next ∷ pending) frames reply = record {
+abbrev pub after_answer : List ScriptBody → List Pending → Frames → Replied → ScriptState
+after_answer bodies [] frames reply = record { phase = phase.Ended; pending = []; frames = frames; bodies = bodies }
+after_answer bodies (next ∷ pending) frames reply = record {
   phase = phase_after_line next.line.call reply.answer;
-  pending = pending;
+  pending = fired bodies next reply ++ pending;
   frames = with_frame frames next.frame (registers_after (register_of next.line.call) reply (frame_at frames next.frame));
+  bodies = bodies;
 }
 
 -- a checkpoint that goes on leads to what it stands before, and a deletion ends the script
@@ -102,10 +176,10 @@ abbrev pub after_in : Phase → ScriptState → Call → Replied → ScriptState
 after_in phase.Before state made reply = record state { phase = phase_after_checkpoint reply.answer }
 after_in phase.At state made reply =
     if is_waits reply.answer then record state { phase = phase.Waiting (part_of made) }
-    else after_answer state.pending state.frames reply
+    else after_answer state.bodies state.pending state.frames reply
 after_in (phase.Waiting part) state made reply =
     if is_checkpoint made then record state { phase = phase.Leaving part }
-    else after_answer state.pending state.frames reply
+    else after_answer state.bodies state.pending state.frames reply
 after_in (phase.Leaving part) state made reply = record state { phase = phase.Ended }
 after_in phase.Ended state made reply = state
 

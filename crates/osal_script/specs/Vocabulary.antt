@@ -13,6 +13,8 @@ use Rattle.osal_script.specs.Counting.{count_sem_word}
 use Rattle.osal_script.specs.Binary.{bin_sem_word}
 use Rattle.osal_script.specs.Mutexes.{mutex_word}
 use Rattle.osal_script.specs.Condvars.{condvar_word}
+use Rattle.osal_script.specs.Timebases.{timebase_word}
+use Rattle.osal_script.specs.Timers.{timer_word}
 
 -- a call on some kind of object
 abbrev pub object_word : List ℕ → Option CallWord
@@ -22,7 +24,9 @@ object_word text =
     (option_or (option_map (λ call. word.CountSem call) (count_sem_word text))
     (option_or (option_map (λ call. word.BinSem call) (bin_sem_word text))
     (option_or (option_map (λ call. word.Mutex call) (mutex_word text))
-    (option_map (λ call. word.Condvar call) (condvar_word text))))))
+    (option_or (option_map (λ call. word.Condvar call) (condvar_word text))
+    (option_or (option_map (λ call. word.Timebase call) (timebase_word text))
+    (option_map (λ call. word.Timer call) (timer_word text))))))))
 
 -- the calls that are read
 abbrev pub call_word : List ℕ → Option CallWord
@@ -31,13 +35,10 @@ call_word text =
     else (if bytes_eq text (codes "release") then Some word.Release
     else object_word text)
 
--- the calls that the machine does not make yet, and the other words whose lines are not read yet
+-- the calls that the machine does not make yet
 abbrev pub unbuilt_words : List (List ℕ)
 unbuilt_words =
-    codes "handler" ∷ codes "timebase_create" ∷ codes "timebase_tick" ∷ codes "timebase_free_run"
-    ∷ codes "timebase_delete" ∷ codes "timebase_find" ∷ codes "timer_find" ∷ codes "timer_add"
-    ∷ codes "timer_set" ∷ codes "timer_delete" ∷ codes "timer_info" ∷ codes "mkfs" ∷ codes "mount"
-    ∷ codes "unmount" ∷ codes "rmfs" ∷ codes "stat_volume" ∷ codes "open" ∷ codes "read" ∷ codes "write"
+    codes "mkfs" ∷ codes "mount" ∷ codes "unmount" ∷ codes "rmfs" ∷ codes "stat_volume" ∷ codes "open" ∷ codes "read" ∷ codes "write"
     ∷ codes "lseek" ∷ codes "close" ∷ codes "remove" ∷ codes "rename" ∷ codes "cp" ∷ codes "stat"
     ∷ codes "mkdir" ∷ codes "rmdir" ∷ codes "dir_open" ∷ codes "dir_read" ∷ codes "dir_rewind"
     ∷ codes "dir_close" ∷ codes "socket_open" ∷ codes "socket_bind" ∷ codes "socket_listen"
@@ -59,6 +60,7 @@ abbrev pub first_word : List ℕ → Option FirstWord
 first_word text =
     if bytes_eq text (codes "osal-app") then Some first.Header
     else (if bytes_eq text (codes "task") then Some first.Task
+    else (if bytes_eq text (codes "handler") then Some first.Handler
     else (if bytes_eq text (codes "repeat") then Some first.Repeat
     else (if bytes_eq text (codes "end") then Some first.End
-    else call_or_unbuilt (call_word text) text)))
+    else call_or_unbuilt (call_word text) text))))

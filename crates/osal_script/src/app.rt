@@ -7,6 +7,8 @@ use crate::counting::CountSemCall;
 use crate::mutexes::MutexCall;
 use crate::queues::QueueCall;
 use crate::tasks::TaskCall;
+use crate::timebases::TimebaseCall;
+use crate::timers::TimerCall;
 use osal_base::{Bytes, OutOfMemory};
 use std::alloc::Global;
 use std::marker::Model;
@@ -98,6 +100,8 @@ pub enum ScriptCall {
     BinSem(BinSemCall),
     Mutex(MutexCall),
     Condvar(CondvarCall),
+    Timebase(TimebaseCall),
+    Timer(TimerCall),
     Hold { id: Register },
     Release { id: Register },
 }

@@ -5,28 +5,37 @@ ghost use Rattle.osal_script.specs.Outcome.{Gives};
 
 use crate::draft::{Draft, DraftBody};
 use crate::fault::Stop;
+use crate::handlers::is_handler;
 use crate::registers::Registers;
 use crate::values::{is_body_name, number_of};
 use crate::{Body, BodyKind, FaultKind, Item};
 use osal_base::{Name, OutOfMemory};
 use std::alloc::Global;
 
-/// A line `task`.
-pub fn read_task(alloc: Global, draft: Draft, words: &[&[u8]]) -> Result<Draft, Stop>
-    ensures { Gives result (blocks.read_task draft draft.open_body (map (λ word. word.now) words.now)) }
+/// A line `task` or `handler`, which begins a body of that kind.
+pub fn read_body(
+    alloc: Global,
+    draft: Draft,
+    kind: BodyKind,
+    words: &[&[u8]],
+) -> Result<Draft, Stop>
+    ensures { Gives result (blocks.read_body draft kind draft.open_body (map (λ word. word.now) words.now)) }
 {
     if draft.current.is_some() {
+        return Err(Stop::Rule(FaultKind::Place));
+    }
+    if is_handler(kind) && draft.bodies.is_empty() {
         return Err(Stop::Rule(FaultKind::Place));
     }
     if words.len() != 1 {
         return Err(Stop::Rule(FaultKind::Argument));
     }
-    begin_body(alloc, draft, words[0])
+    begin_body(alloc, draft, kind, words[0])
 }
 
-/// A body of that name is open.
-fn begin_body(alloc: Global, draft: Draft, name: &[u8]) -> Result<Draft, Stop>
-    ensures { Gives result (blocks.begin_body draft (name.now ∷ [])) }
+/// A body of that kind and name is open.
+fn begin_body(alloc: Global, draft: Draft, kind: BodyKind, name: &[u8]) -> Result<Draft, Stop>
+    ensures { Gives result (blocks.begin_body draft kind (name.now ∷ [])) }
 {
     if !is_body_name(name) {
         return Err(Stop::Rule(FaultKind::Argument));
@@ -46,7 +55,7 @@ fn begin_body(alloc: Global, draft: Draft, name: &[u8]) -> Result<Draft, Stop>
         Ok(name) => Ok(Draft {
             header,
             bodies,
-            current: Some(empty_body(alloc, name)),
+            current: Some(empty_body(alloc, kind, name)),
         }),
         Err(_) => Err(Stop::Rule(FaultKind::Argument)),
     }
@@ -58,11 +67,12 @@ fn is_taken(bodies: &[Body], name: &[u8]) -> bool
     bodies.iter().any(|body| body.name().as_slice() == name)
 }
 
-fn empty_body(alloc: Global, name: Name) -> DraftBody
-    ensures { result ≡ blocks.empty_body name }
+fn empty_body(alloc: Global, kind: BodyKind, name: Name) -> DraftBody
+    ensures { result ≡ blocks.empty_body kind name }
 {
     DraftBody {
         name,
+        kind,
         items: Vec::new(alloc),
         count: 0,
         repeats: 0,
@@ -70,7 +80,7 @@ fn empty_body(alloc: Global, name: Name) -> DraftBody
     }
 }
 
-/// A line `repeat`.
+/// A line `repeat`, which stands in a task's body.
 pub fn read_repeat(draft: Draft, words: &[&[u8]]) -> Result<Draft, Stop>
     ensures { Gives result (blocks.read_repeat draft draft.open_body (map (λ word. word.now) words.now)) }
 {
@@ -82,6 +92,9 @@ pub fn read_repeat(draft: Draft, words: &[&[u8]]) -> Result<Draft, Stop>
     let Some(body) = current else {
         return Err(Stop::Rule(FaultKind::Place));
     };
+    if is_handler(body.kind) {
+        return Err(Stop::Rule(FaultKind::Place));
+    }
     if words.len() != 1 {
         return Err(Stop::Rule(FaultKind::Argument));
     }
@@ -102,6 +115,7 @@ fn begin_repeat(body: DraftBody, times: Option<u32>) -> Result<DraftBody, Stop>
     };
     let DraftBody {
         name,
+        kind,
         mut items,
         count,
         repeats,
@@ -113,6 +127,7 @@ fn begin_repeat(body: DraftBody, times: Option<u32>) -> Result<DraftBody, Stop>
     items.push(Item::Repeat { count: times })?;
     Ok(DraftBody {
         name,
+        kind,
         items,
         count: count + 1,
         repeats: repeats + 1,
@@ -158,6 +173,7 @@ fn end_repeat(body: DraftBody) -> Result<DraftBody, OutOfMemory>
 {
     let DraftBody {
         name,
+        kind,
         items,
         count,
         repeats,
@@ -166,6 +182,7 @@ fn end_repeat(body: DraftBody) -> Result<DraftBody, OutOfMemory>
     let items = closed(items)?;
     Ok(DraftBody {
         name,
+        kind,
         items,
         count,
         repeats: repeats - 1,
@@ -209,10 +226,11 @@ fn finished(body: DraftBody) -> Body
 {
     let DraftBody {
         name,
+        kind,
         items,
         count: _,
         repeats: _,
         registers: _,
     } = body;
-    Body::new(name, BodyKind::Task, items)
+    Body::new(name, kind, items)
 }

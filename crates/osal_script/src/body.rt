@@ -1,6 +1,6 @@
 //! Bodies and applications.
 ghost use Rattle.std.specs.Prelude.{◌≡◌, ◌<◌, ◌≤◌, Some, length, slice_get, option_map};
-ghost use Rattle.osal_script.specs.App.{NamesLater};
+ghost use Rattle.osal_script.specs.App.{NamesLater, HandlersAreBare};
 ghost use Rattle.osal_script.specs.Nesting.{IsNested};
 
 use crate::{BodyKind, Item};
@@ -66,14 +66,15 @@ pub struct App {
 
 impl Model for App {
     ghost use Rattle.std.specs.Prelude.{◌<◌, ◌≤◌, length};
-    ghost use Rattle.osal_script.specs.App.{Application, NamesLater};
+    ghost use Rattle.osal_script.specs.App.{Application, NamesLater, HandlersAreBare};
 
     ghost Value = { Application };
 
     ghost view = { λ a. record { version = 1; bodies = a.bodies.items } };
 
     ghost invariant = { λ a. (0 < length a.bodies.items) × (length a.bodies.items ≤ 64)
-        × NamesLater (record { version = 1; bodies = a.bodies.items }) };
+        × NamesLater (record { version = 1; bodies = a.bodies.items })
+        × HandlersAreBare (record { version = 1; bodies = a.bodies.items }) };
 }
 
 impl App {
@@ -82,6 +83,7 @@ impl App {
         requires some { 0 < length bodies.items }
         requires few { length bodies.items ≤ 64 }
         requires later { NamesLater (record { version = 1; bodies = bodies.items }) }
+        requires handlers { HandlersAreBare (record { version = 1; bodies = bodies.items }) }
         ensures { result ≡ record { version = 1; bodies = bodies.items } }
     {
         App { bodies }
@@ -93,6 +95,7 @@ impl App {
         ensures some { 0 < result }
         ensures few { result ≤ 64 }
         ensures later { NamesLater self.now }
+        ensures handlers { HandlersAreBare self.now }
     {
         self.bodies.len() as u32
     }
@@ -110,6 +113,7 @@ impl App {
         ensures some { 0 < length self.now.bodies }
         ensures first { slice_get self.now.bodies 0 ≡ Some result.now }
         ensures later { NamesLater self.now }
+        ensures handlers { HandlersAreBare self.now }
     {
         &self.bodies[0]
     }

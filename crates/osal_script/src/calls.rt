@@ -1,7 +1,9 @@
 //! The call lines of a body.
-ghost use Rattle.std.specs.Prelude.{◌≡◌, map};
+ghost use Rattle.std.specs.Prelude.{◌≡◌, ◌<◌, ◌+◌, ◌++◌, ◌&&◌, ◌||◌, [], ◌∷◌, map, nat_le, option_map, IfOk};
+ghost use Rattle.osal_script.specs.declared.app.Item.TheVariants as item;
 ghost use Rattle.osal_script.specs.Places.{number_in};
 ghost use Rattle.osal_script.specs.Draft.{begun};
+ghost use Rattle.osal_script.specs.Handlers as handlers;
 ghost use Rattle.osal_script.specs.Reading as reading;
 ghost use Rattle.osal_script.specs.Outcome.{Gives};
 
@@ -10,10 +12,12 @@ use crate::draft::{Draft, DraftBody};
 use crate::expectation::{arrow_place, expectation_of};
 use crate::fault::Stop;
 use crate::grammar::{CallWord, call_of_words};
-use crate::{FaultKind, Item, Line};
+use crate::handlers::{is_handler, may_wait, needs_task};
+use crate::{BodyKind, Expect, FaultKind, Item, Line, ScriptCall};
+use osal_base::OutOfMemory;
 use std::alloc::Global;
 
-/// The body with one more call line, behind so many bodies that have begun.
+/// What a call line makes of its body, behind so many bodies that have begun.
 fn body_after(
     alloc: Global,
     body: DraftBody,
@@ -27,7 +31,8 @@ fn body_after(
 {
     let DraftBody {
         name,
-        mut items,
+        kind,
+        items,
         count,
         repeats,
         mut registers,
@@ -42,22 +47,78 @@ fn body_after(
         &mut registers,
     )?;
     let expect = expectation_of(alloc, &words[arrow..])?;
-    let (Some(call), Some(expect)) = (made, expect) else {
+    let body = DraftBody {
+        name,
+        kind,
+        items,
+        count,
+        repeats,
+        registers,
+    };
+    join_line(body, number, made, expect)
+}
+
+/// The body with a call line whose words are right, where it may stand there.
+fn join_line(
+    body: DraftBody,
+    number: u32,
+    call: Option<ScriptCall>,
+    expect: Option<Option<Expect>>,
+) -> Result<DraftBody, Stop>
+    ensures { Gives result (reading.join_line body number (option_map (λ made. (made, body.registers)) call) expect) }
+{
+    let (Some(call), Some(expect)) = (call, expect) else {
         return Err(Stop::Rule(FaultKind::Argument));
     };
-    if registers.is_over() || 4096 <= count {
+    if waits_in_handler(body.kind, &call) {
+        return Err(Stop::Rule(FaultKind::Argument));
+    }
+    if is_too_many(&body) {
         return Err(Stop::Rule(FaultKind::Many));
     }
-    if registers.is_undeclared() {
+    if body.registers.is_undeclared() {
         return Err(Stop::Rule(FaultKind::Body));
     }
-    items.push(Item::Call(Line {
+    let line = Line {
         number,
         call,
         expect,
-    }))?;
+    };
+    Ok(with_line(body, line)?)
+}
+
+/// Whether a call may wait in a body that may not.
+fn waits_in_handler(kind: BodyKind, call: &ScriptCall) -> bool
+    ensures { result ≡ (handlers.is_handler kind && handlers.may_wait call.now) }
+{
+    is_handler(kind) && may_wait(call)
+}
+
+/// Whether a line is too many for its body, or its registers are.
+fn is_too_many(body: &DraftBody) -> bool
+    ensures { result ≡ (body.now.registers.over || nat_le 4096 body.now.count) }
+{
+    body.registers.is_over() || 4096 <= body.count
+}
+
+/// The body with one more call line.
+fn with_line(body: DraftBody, line: Line) -> Result<DraftBody, OutOfMemory>
+    requires { body.count < 4096 }
+    ensures { IfOk result (λ after.
+        after ≡ record body { items = body.items ++ item.Call line ∷ []; count = body.count + 1 }) }
+{
+    let DraftBody {
+        name,
+        kind,
+        mut items,
+        count,
+        repeats,
+        registers,
+    } = body;
+    items.push(Item::Call(line))?;
     Ok(DraftBody {
         name,
+        kind,
         items,
         count: count + 1,
         repeats,
@@ -85,6 +146,9 @@ pub fn read_call(
     let Some(body) = current else {
         return Err(Stop::Rule(FaultKind::Place));
     };
+    if is_handler(body.kind) && needs_task(call) {
+        return Err(Stop::Rule(FaultKind::Place));
+    }
     let begun = bodies.len() + 1;
     let body = body_after(alloc, body, number, call, words, declared, begun)?;
     Ok(Draft {

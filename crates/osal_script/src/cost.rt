@@ -1,12 +1,13 @@
 //! What an application may cost: the most entries that a run of it has.
-ghost use Rattle.std.specs.Prelude.{◌≡◌, ◌<◌, ◌-◌, ◌^◌, [], ◌∷◌, length, min, slice_index};
+ghost use Rattle.std.specs.Prelude.{◌≡◌, ◌<◌, ◌-◌, ◌^◌, [], ◌∷◌, length, min, replicate, slice_index};
 ghost use Rattle.osal_script.specs.Cost as cost;
-ghost use Rattle.osal_script.specs.Cost.{cost_of, first_cost, level_costs};
+ghost use Rattle.osal_script.specs.Cost.{cost_of, first_cost, greatest_handler, level_costs};
 ghost use Rattle.osal_script.specs.Nesting.{IsNested};
-ghost use Rattle.osal_script.specs.Saturated.{saturated, onto_saturated, repeated_saturated};
+ghost use Rattle.osal_script.specs.Saturated.{saturated, onto_saturated, repeated_saturated, prices_of};
 
-use crate::{App, Item, ScriptCall};
-use osal_base::Timeout;
+use crate::handling::TIMER_LIMIT;
+use crate::{App, Body, BodyKind, Item, ScriptCall};
+use osal_base::{Limits, Timeout};
 use std::marker::Model;
 
 /// The costs of the levels that are open at an item, the innermost last.
@@ -73,33 +74,100 @@ impl Levels {
     }
 }
 
+/// What brings other lines about: the body of each number, and the handlers of a tick.
+#[derive(Drop)]
+pub(crate) struct Prices {
+    bodies: [u64; 64],
+    tick: u64,
+}
+
+impl Prices {
+    /// Bodies cost nothing, and a tick so much.
+    fn of_tick(tick: u64) -> Prices
+        ensures { result ≡ record { bodies = replicate 64 0; tick = tick } }
+    {
+        Prices {
+            bodies: [0; 64],
+            tick,
+        }
+    }
+
+    /// The cost of the body of that number; one that is not there costs nothing.
+    pub(crate) fn body(&self, number: u32) -> u64
+        ensures { result ≡ slice_index self.now.bodies number }
+    {
+        match self.bodies.get(number as usize) {
+            Some(cost) => *cost,
+            None => 0,
+        }
+    }
+
+    /// What the handlers of a tick cost.
+    pub(crate) fn tick(&self) -> u64
+        ensures { result ≡ self.now.tick }
+    {
+        self.tick
+    }
+}
+
 impl App {
     /// The most entries that a run of the application has, or the greatest number where there may be more.
     pub fn cost(&self) -> u64
         ensures { result ≡ min (cost_of self.now) (2 ^ 64 - 1) }
     {
-        let mut costs = [0; 64];
+        let mut prices = Prices::of_tick(self.tick_cost());
         let mut number = self.bodies();
         while 0 < number {
             number -= 1;
-            let items = items_cost(&costs, self.body(number).items());
-            costs[number as usize] = items.saturating_add(2);
+            let items = items_cost(&prices, self.body(number).items());
+            prices.bodies[number as usize] = items.saturating_add(2);
         }
-        costs[0].saturating_add(1)
+        prices.bodies[0].saturating_add(1)
+    }
+
+    /// What a tick costs beside its line: the dearest handler, as often as timers may fire.
+    fn tick_cost(&self) -> u64
+        ensures { result ≡ saturated (cost.tick_cost self.now.bodies) }
+    {
+        let timers = Limits::version1().timers.min(TIMER_LIMIT);
+        u64::from(timers).saturating_mul(self.greatest_handler())
+    }
+
+    /// The cost of the dearest handler.
+    fn greatest_handler(&self) -> u64
+        ensures { result ≡ saturated (greatest_handler self.now.bodies) }
+    {
+        let mut greatest = 0;
+        let mut number = self.bodies();
+        while 0 < number {
+            number -= 1;
+            greatest = handler_cost(self.body(number)).max(greatest);
+        }
+        greatest
     }
 }
 
-/// The cost of a body's items, where the bodies cost so much.
-fn items_cost(costs: &[u64; 64], items: &[Item]) -> u64
+/// The cost of a handler, which neither creates tasks nor ticks; a task body is none.
+fn handler_cost(body: &Body) -> u64
+    ensures { result ≡ saturated (cost.handler_cost body.now.kind body.now.items) }
+{
+    match body.kind() {
+        BodyKind::Handler => items_cost(&Prices::of_tick(0), body.items()),
+        BodyKind::Task => 0,
+    }
+}
+
+/// The cost of a body's items.
+fn items_cost(prices: &Prices, items: &[Item]) -> u64
     requires { IsNested items.now }
-    ensures { result ≡ saturated (first_cost (level_costs (slice_index costs.now) items.now)) }
+    ensures { result ≡ saturated (first_cost (level_costs (prices_of prices.now) items.now)) }
 {
     let mut levels = Levels::new();
     let mut at = items.len();
     while 0 < at {
         at -= 1;
         match &items[at] {
-            Item::Call(line) => levels.add(line_cost(costs, &line.call)),
+            Item::Call(line) => levels.add(line_cost(prices, &line.call)),
             Item::Repeat { count } => levels.repeat(*count),
             Item::End => levels.end(),
         }
@@ -107,35 +175,26 @@ fn items_cost(costs: &[u64; 64], items: &[Item]) -> u64
     levels.outermost()
 }
 
-/// The cost of a line, where the bodies cost so much.
-fn line_cost(costs: &[u64; 64], call: &ScriptCall) -> u64
-    ensures { result ≡ saturated (cost.line_cost (slice_index costs.now) call.now) }
+/// The cost of a line.
+fn line_cost(prices: &Prices, call: &ScriptCall) -> u64
+    ensures { result ≡ saturated (cost.line_cost (prices_of prices.now) call.now) }
 {
-    more_cost(costs, call).saturating_add(2)
+    more_cost(prices, call).saturating_add(2)
 }
 
-/// What a line costs beside its checkpoint and its call, where the bodies cost so much.
-fn more_cost(costs: &[u64; 64], call: &ScriptCall) -> u64
-    ensures { result ≡ saturated (cost.more_cost (slice_index costs.now) call.now) }
+/// What a line costs beside its checkpoint and its call.
+fn more_cost(prices: &Prices, call: &ScriptCall) -> u64
+    ensures { result ≡ saturated (cost.more_cost (prices_of prices.now) call.now) }
 {
     match call {
-        ScriptCall::Task(call) => call.cost(costs),
+        ScriptCall::Task(call) => call.cost(prices),
         ScriptCall::Queue(call) => call.cost(),
         ScriptCall::CountSem(call) => call.cost(),
         ScriptCall::BinSem(call) => call.cost(),
         ScriptCall::Mutex(call) => call.cost(),
         ScriptCall::Condvar(call) => call.cost(),
-        ScriptCall::Hold { .. } | ScriptCall::Release { .. } => 0,
-    }
-}
-
-/// The cost of the body of that number; one that is not there costs nothing.
-pub(crate) fn body_cost(costs: &[u64; 64], number: u32) -> u64
-    ensures { result ≡ slice_index costs.now number }
-{
-    match costs.get(number as usize) {
-        Some(cost) => *cost,
-        None => 0,
+        ScriptCall::Timebase(call) => call.cost(prices),
+        ScriptCall::Timer(_) | ScriptCall::Hold { .. } | ScriptCall::Release { .. } => 0,
     }
 }
 

@@ -17,7 +17,7 @@ fn app_of(rt: &impl Abort, alloc: Global, lines: &str) -> Result<App, Fail> {
     }
 }
 
-const COSTS: [(&str, u64); 9] = [
+const COSTS: [(&str, u64); 14] = [
     ("task_create $t \"t\" w 0 1\ntask_delay 0", 26),
     (
         "repeat 2\nrepeat 2\nrepeat 2\ntask_create $t \"t\" w 0 1\nend\nend\ntask_delay 0\nend",
@@ -51,10 +51,27 @@ const COSTS: [(&str, u64); 9] = [
         "condvar_wait $v check\ncondvar_wait $v pend\ncondvar_wait $v 1\ncondvar_signal $v",
         14,
     ),
+    ("timebase_tick $b 1", 5),
+    (
+        "timebase_tick $b 1\nend\nhandler h\nbin_sem_give $s\nbin_sem_give $s",
+        45,
+    ),
+    (
+        "timebase_tick $b 1\ntimebase_tick $b 1\nend\nhandler g\nbin_sem_give $s\nend\nhandler h\nqueue_get $q 64 check",
+        67,
+    ),
+    (
+        "task_create $t \"t\" x 0 1\nend\nhandler h\nend\nhandler g\nbin_sem_give $s\nend\ntask x\ntimebase_tick $b 1",
+        37,
+    ),
+    (
+        "repeat 100000\nrepeat 100000\nrepeat 100000\ntimebase_tick $b 1\nend\nend\nend\nend\nhandler h\nqueue_get $q 4294967295 check",
+        u64::MAX,
+    ),
 ];
 
 #[test]
-fn turns_tasks_waits_and_bytes_cost(rt: HostRuntime) -> Result<(), Fail> {
+fn turns_tasks_waits_bytes_and_ticks_cost(rt: HostRuntime) -> Result<(), Fail> {
     for (lines, cost) in COSTS {
         let app = app_of(&rt, rt.alloc(), lines)?;
         assert_eq!(rt; app.cost(), cost, "{lines}");

@@ -1,14 +1,16 @@
 //! The cursor: how far a task has come in its script.
 ghost use Rattle.std.specs.Prelude.{◌≡◌, Some, IfOk, OnErr, OnOk, option_copied, option_map, if◌then◌else◌};
 ghost use Rattle.osal_base.specs.Reply.{reply_of, is_waits};
+ghost use Rattle.osal_machine.specs.Call.{said};
 ghost use Rattle.osal_script.specs.declared.phase.Phase.TheVariants as phase;
 ghost use Rattle.osal_script.specs.Script as script;
 ghost use Rattle.osal_script.specs.Script.{start_of, after, after_answer};
-ghost use Rattle.osal_script.specs.Cursor.{moved, first_line, line_number, IsStep};
+ghost use Rattle.osal_script.specs.Cursor.{moved, first_line, first_frame, line_number, IsStep};
 
+use crate::handling::Handling;
 use crate::line::{call_made, part_made, set_register};
 use crate::walk::Walk;
-use crate::{Body, Line, Phase, ScriptCall, TaskCall};
+use crate::{App, Body, Line, Phase, ScriptCall, TaskCall};
 use osal_base::{Answer, OutOfMemory, Reply};
 use osal_machine::{Call, part_of};
 use std::alloc::Global;
@@ -23,34 +25,42 @@ pub enum Step {
     Finished,
 }
 
-/// A walk along a body's script.
+/// A walk along a body's script: its lines, and behind a tick those of the handlers that the tick runs.
 #[derive(Drop)]
 pub struct Cursor<'a> {
     phase: Phase,
     walk: Walk<'a>,
     registers: [u32; 32],
+    handling: Handling<'a>,
 }
 
 impl<'a> Model for Cursor<'a> {
-    ghost use Rattle.std.specs.Prelude.{[], ◌∷◌, map};
+    ghost use Rattle.std.specs.Prelude.{◌++◌, map};
     ghost use Rattle.osal_script.specs.Script.{ScriptState, in_body};
+    ghost use Rattle.osal_script.specs.Handling.{pending_in};
 
     ghost Value = { ScriptState };
 
-    ghost view = { λ a. record { phase = a.phase; pending = map in_body a.walk; frames = a.registers ∷ [] } };
+    ghost view = { λ a. record {
+      phase = a.phase;
+      pending = pending_in a.handling ++ map in_body a.walk;
+      frames = record { body = a.registers; handler = a.handling.registers };
+      bodies = a.handling.bodies;
+    } };
 
     ghost invariant = { λ a. Unit {0} };
 }
 
 impl<'a> Cursor<'a> {
-    /// A cursor at the start of the body's script.
-    pub fn new(body: &'a Body) -> Cursor<'a>
-        ensures { result ≡ start_of body.now }
+    /// A cursor at the start of a body's script; a tick runs handlers of the application.
+    pub fn new(app: &'a App, body: &'a Body) -> Cursor<'a>
+        ensures { result ≡ start_of app.now.bodies body.now }
     {
         Cursor {
             phase: Phase::Before,
             walk: Walk::new(body.items()),
             registers: [0; 32],
+            handling: Handling::new(app),
         }
     }
 
@@ -65,10 +75,25 @@ impl<'a> Cursor<'a> {
     pub fn line(&self) -> Option<&'a Line>
         ensures { option_copied result ≡ first_line self.now.pending }
     {
-        self.walk.line()
+        match self.handling.line() {
+            Some(line) => Some(line),
+            None => self.walk.line(),
+        }
+    }
+
+    /// The registers that the next line uses: the body's, or those of a handler.
+    fn frame(&self) -> [u32; 32]
+        ensures { result ≡ first_frame self.now.pending self.now.frames }
+    {
+        match self.handling.line() {
+            Some(_) => self.handling.frame(),
+            None => self.registers,
+        }
     }
 
     /// Goes past a call that was made, and its reply. It takes no memory.
+    ///
+    /// A tick of the body that succeeds puts the handlers that its reply names before the body's next line.
     pub fn follow(&mut self, call: &Call, reply: &Reply)
         ensures { self.new ≡ after self.old call.now (reply_of reply.now) }
     {
@@ -94,34 +119,29 @@ impl<'a> Cursor<'a> {
         ensures step { IfOk result (λ step. IsStep self.new step) }
         ensures memory { OnErr result (self.new ≡ self.old) }
     {
-        let mut next = self.copy();
+        let phase = self.phase;
         if let Some(reply) = reply {
-            next.pass(reply);
+            self.pass(reply);
         }
-        let step = next.step(alloc)?;
-        *self = next;
-        Ok(step)
-    }
-
-    /// Another cursor at the same place.
-    fn copy(&self) -> Cursor<'a>
-        ensures { result ≡ self.now }
-    {
-        Cursor {
-            phase: self.phase,
-            walk: self.walk.copy(),
-            registers: self.registers,
+        match self.step(alloc) {
+            Ok(step) => Ok(step),
+            Err(error) => {
+                // Only a line's call takes memory, and its checkpoint changed no more than the phase.
+                self.phase = phase;
+                Err(error)
+            }
         }
     }
 
     /// Goes past the call that comes next, unless its task is deleted in a wait, and its reply.
+    #[tactic(auto, using(crate::proofs::Frames::call_with_frame))]
     fn pass(&mut self, reply: &Reply)
         ensures { self.new ≡ moved self.old (Some (reply_of reply.now)) }
     {
         match self.phase {
             Phase::Before => self.phase = phase_after_checkpoint(reply.answer),
             Phase::At => {
-                let part = part_made(self.walk.line(), &self.registers);
+                let part = part_made(self.line(), &self.frame());
                 self.pass_line(part, reply);
             }
             Phase::Waiting { .. } => self.pass_answer(reply),
@@ -133,7 +153,7 @@ impl<'a> Cursor<'a> {
     fn pass_line(&mut self, part: u32, reply: &Reply)
         ensures { self.new ≡ (if is_waits reply.now.answer
             then record self.old { phase = phase.Waiting part }
-            else after_answer self.old.pending self.old.frames (reply_of reply.now)) }
+            else after_answer self.old.bodies self.old.pending self.old.frames (reply_of reply.now)) }
     {
         match reply.answer {
             Answer::Waits => self.phase = Phase::Waiting { part },
@@ -143,8 +163,13 @@ impl<'a> Cursor<'a> {
 
     /// Goes past a line that was answered, or past the exit where no line is left.
     fn pass_answer(&mut self, reply: &Reply)
-        ensures { self.new ≡ after_answer self.old.pending self.old.frames (reply_of reply.now) }
+        ensures { self.new ≡ after_answer self.old.bodies self.old.pending self.old.frames (reply_of reply.now) }
     {
+        if let Some(line) = self.handling.line() {
+            self.phase = phase_after_line(&line.call, reply.answer);
+            self.handling.pass(&line.call, reply);
+            return;
+        }
         let Some(line) = self.walk.line() else {
             self.phase = Phase::Ended;
             return;
@@ -152,16 +177,26 @@ impl<'a> Cursor<'a> {
         self.phase = phase_after_line(&line.call, reply.answer);
         self.walk = self.walk.behind();
         set_register(&mut self.registers, &line.call, reply);
+        self.handling.fire(line, reply);
     }
 
-    /// The next call with its line. A name and a payload are copied.
-    pub fn step(&self, alloc: Global) -> Result<Step, OutOfMemory>
-        ensures { IfOk result (λ step. IsStep self.now step) }
+    /// The call of the line that comes next, or the exit where none does.
+    #[tactic(auto, using(crate::proofs::Frames::call_with_frame))]
+    fn line_call(&self, alloc: Global) -> Result<Call, OutOfMemory>
+        ensures { IfOk result (λ call. said call ≡ script.line_call self.now.pending self.now.frames) }
     {
-        let line = self.walk.line();
+        call_made(alloc, self.line(), &self.frame())
+    }
+
+    /// The next call with its line. A name and a payload are copied: no call but a line's takes memory.
+    pub fn step(&self, alloc: Global) -> Result<Step, OutOfMemory>
+        ensures step { IfOk result (λ step. IsStep self.now step) }
+        ensures memory { OnErr result (self.now.phase ≡ phase.At) }
+    {
+        let line = self.line();
         let call = match self.phase {
             Phase::Before => Call::Checkpoint,
-            Phase::At => call_made(alloc, line, &self.registers)?,
+            Phase::At => self.line_call(alloc)?,
             Phase::Waiting { part } => Call::WaitEnd { part },
             Phase::Leaving { part } => Call::WaitAbandon { part },
             Phase::Ended => return Ok(Step::Finished),

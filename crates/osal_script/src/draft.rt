@@ -3,7 +3,7 @@ ghost use Rattle.std.specs.Prelude.{◌≡◌};
 ghost use Rattle.osal_script.specs.Draft as draft;
 
 use crate::registers::Registers;
-use crate::{Body, Item};
+use crate::{Body, BodyKind, Item};
 use osal_base::Name;
 use std::alloc::Global;
 use std::marker::Model;
@@ -12,6 +12,7 @@ use std::marker::Model;
 #[derive(Drop)]
 pub struct DraftBody {
     pub name: Name,
+    pub kind: BodyKind,
     pub items: Vec<Item>,
     /// How many items it has, with those of repeats that are left out.
     pub count: u32,
@@ -29,6 +30,7 @@ impl Model for DraftBody {
 
     ghost view = { λ a. record {
       name = a.name;
+      kind = a.kind;
       items = a.items.items;
       count = a.count;
       repeats = a.repeats;

@@ -13,6 +13,8 @@ use crate::mutexes::{MutexWord, mutex_of_words};
 use crate::queues::{QueueWord, queue_of_words};
 use crate::registers::Registers;
 use crate::tasks::{TaskWord, task_of_words};
+use crate::timebases::{TimebaseWord, timebase_of_words};
+use crate::timers::{TimerWord, timer_of_words};
 use osal_base::OutOfMemory;
 use std::alloc::Global;
 
@@ -25,6 +27,8 @@ pub enum CallWord {
     BinSem(BinSemWord),
     Mutex(MutexWord),
     Condvar(CondvarWord),
+    Timebase(TimebaseWord),
+    Timer(TimerWord),
     Hold,
     Release,
 }
@@ -36,6 +40,8 @@ pub enum FirstWord {
     Header,
     /// `task`.
     Task,
+    /// `handler`.
+    Handler,
     /// `repeat`.
     Repeat,
     /// `end`.
@@ -83,6 +89,14 @@ pub fn call_of_words(
         CallWord::Condvar(call) => {
             let made = condvar_of_words(alloc, call, words, registers)?;
             Ok(made.map(|made| ScriptCall::Condvar(made)))
+        }
+        CallWord::Timebase(call) => {
+            let made = timebase_of_words(alloc, call, words, registers)?;
+            Ok(made.map(|made| ScriptCall::Timebase(made)))
+        }
+        CallWord::Timer(call) => {
+            let made = timer_of_words(alloc, call, words, declared, begun, registers)?;
+            Ok(made.map(|made| ScriptCall::Timer(made)))
         }
         CallWord::Hold => Ok(only_id(words, registers)?.map(|id| ScriptCall::Hold { id })),
         CallWord::Release => Ok(only_id(words, registers)?.map(|id| ScriptCall::Release { id })),

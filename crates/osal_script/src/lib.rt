@@ -17,6 +17,8 @@ mod expectation;
 mod expected;
 mod fault;
 mod grammar;
+mod handlers;
+mod handling;
 mod line;
 mod mutexes;
 mod payload;
@@ -27,6 +29,8 @@ mod reading;
 mod registers;
 mod strings;
 mod tasks;
+mod timebases;
+mod timers;
 mod values;
 mod vocabulary;
 mod walk;
@@ -44,6 +48,8 @@ pub use phase::Phase;
 pub use queues::QueueCall;
 pub use reader::parse;
 pub use tasks::TaskCall;
+pub use timebases::TimebaseCall;
+pub use timers::TimerCall;
 
 #[cfg(test)]
 mod cost_tests;

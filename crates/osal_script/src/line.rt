@@ -3,6 +3,7 @@ ghost use Rattle.std.specs.Prelude.{◌≡◌, IfOk, option_copied, slice_index}
 ghost use Rattle.osal_base.specs.Reply.{reply_of};
 ghost use Rattle.osal_machine.specs.Call as machine;
 ghost use Rattle.osal_machine.specs.Call.{said};
+ghost use Rattle.osal_script.specs.App.{is_tick_line};
 ghost use Rattle.osal_script.specs.Calls as calls;
 ghost use Rattle.osal_script.specs.Script as script;
 
@@ -38,6 +39,8 @@ fn call_of(alloc: Global, call: &ScriptCall, registers: &[u32; 32]) -> Result<Ca
         ScriptCall::BinSem(call) => call.to_call(alloc, registers),
         ScriptCall::Mutex(call) => call.to_call(alloc, registers),
         ScriptCall::Condvar(call) => call.to_call(alloc, registers),
+        ScriptCall::Timebase(call) => call.to_call(alloc, registers),
+        ScriptCall::Timer(call) => call.to_call(alloc, registers),
         ScriptCall::Hold { id } => Ok(Call::Hold {
             id: held_in(registers, *id),
         }),
@@ -61,6 +64,7 @@ pub(crate) fn part_made(line: Option<&Line>, registers: &[u32; 32]) -> u32
         ScriptCall::BinSem(_) => 3,
         ScriptCall::Mutex(_) => 4,
         ScriptCall::Condvar(_) => 5,
+        ScriptCall::Timebase(_) | ScriptCall::Timer(_) => 6,
         ScriptCall::Hold { id } | ScriptCall::Release { id } => part_of(&Call::Hold {
             id: held_in(registers, *id),
         }),
@@ -79,7 +83,27 @@ impl ScriptCall {
             ScriptCall::BinSem(call) => call.register(),
             ScriptCall::Mutex(call) => call.register(),
             ScriptCall::Condvar(call) => call.register(),
+            ScriptCall::Timebase(call) => call.register(),
+            ScriptCall::Timer(call) => call.register(),
             ScriptCall::Hold { .. } | ScriptCall::Release { .. } => None,
+        }
+    }
+
+    /// Whether the call is a tick.
+    pub(crate) fn is_tick(&self) -> bool
+        ensures { result ≡ is_tick_line self.now }
+    {
+        match self {
+            ScriptCall::Timebase(call) => call.is_tick(),
+            ScriptCall::Task(_)
+            | ScriptCall::Queue(_)
+            | ScriptCall::CountSem(_)
+            | ScriptCall::BinSem(_)
+            | ScriptCall::Mutex(_)
+            | ScriptCall::Condvar(_)
+            | ScriptCall::Timer(_)
+            | ScriptCall::Hold { .. }
+            | ScriptCall::Release { .. } => false,
         }
     }
 }

@@ -5,8 +5,7 @@ ghost use Rattle.osal_script.specs.Draft.{begun};
 ghost use Rattle.osal_script.specs.Reading as reading;
 ghost use Rattle.osal_script.specs.Outcome.{Gives};
 
-use crate::FaultKind;
-use crate::blocks::{read_end, read_repeat, read_task};
+use crate::blocks::{read_body, read_end, read_repeat};
 use crate::calls::read_call;
 use crate::declarations::Declarations;
 use crate::draft::Draft;
@@ -14,6 +13,7 @@ use crate::fault::Stop;
 use crate::grammar::FirstWord;
 use crate::vocabulary::first_word;
 use crate::words::{is_line, words_of};
+use crate::{BodyKind, FaultKind};
 use std::alloc::Global;
 
 fn is_comment(word: &[u8]) -> bool
@@ -53,7 +53,8 @@ fn read_by_word(
         None => Err(Stop::Rule(FaultKind::Word)),
         Some(FirstWord::Unbuilt) => Err(Stop::Rule(FaultKind::Unbuilt)),
         Some(FirstWord::Header) => Err(Stop::Rule(FaultKind::Place)),
-        Some(FirstWord::Task) => read_task(alloc, draft, words),
+        Some(FirstWord::Task) => read_body(alloc, draft, BodyKind::Task, words),
+        Some(FirstWord::Handler) => read_body(alloc, draft, BodyKind::Handler, words),
         Some(FirstWord::Repeat) => read_repeat(draft, words),
         Some(FirstWord::End) => read_end(draft, words),
         Some(FirstWord::Call(call)) => read_call(alloc, draft, number, call, words, declared),

@@ -1,11 +1,11 @@
-//! What the lines of a body name: its registers, and the bodies of the tasks that it creates.
+//! What the lines of a body name: its registers, and the bodies of tasks and handlers.
 ghost use Rattle.std.specs.Prelude.{◌≡◌, ◌<◌, length, option_map, IfOk, IfSome};
 ghost use Rattle.osal_script.specs.Places.{number_in};
 ghost use Rattle.osal_script.specs.Registers as registers;
 
-use crate::Register;
 use crate::declarations::Declarations;
 use crate::values::{is_body_name, register_name};
+use crate::{BodyKind, Register};
 use osal_base::{Name, OutOfMemory};
 use std::alloc::Global;
 use std::marker::Model;
@@ -86,15 +86,21 @@ impl Registers {
         }
     }
 
-    /// The number of the body that a word names, behind so many bodies that have begun.
-    pub fn body_at(&mut self, declared: &Declarations, begun: usize, word: &[u8]) -> Option<u32>
-        ensures { registers.body_at (number_in declared.now begun) self.old word.now
+    /// The number of the body of that kind that a word names, behind so many bodies that have begun.
+    pub fn body_at(
+        &mut self,
+        declared: &Declarations,
+        begun: usize,
+        kind: BodyKind,
+        word: &[u8],
+    ) -> Option<u32>
+        ensures { registers.body_at (number_in declared.now begun kind) self.old word.now
             ≡ option_map (λ body. (body, self.new)) result }
     {
         if !is_body_name(word) {
             return None;
         }
-        match declared.number(begun, word) {
+        match declared.number(begun, kind, word) {
             Some(number) => Some(number),
             None => {
                 self.undeclared = true;

@@ -1,19 +1,20 @@
 //! The call lines on tasks.
-ghost use Rattle.std.specs.Prelude.{◌≡◌, map, option_map, slice_index, IfOk};
+ghost use Rattle.std.specs.Prelude.{◌≡◌, map, option_map, IfOk};
 ghost use Rattle.osal_machine.specs.Call.{said};
+ghost use Rattle.osal_script.specs.declared.app.BodyKind.TheVariants as kind;
 ghost use Rattle.osal_script.specs.Places.{number_in};
 ghost use Rattle.osal_script.specs.Tasks as tasks;
 ghost use Rattle.osal_script.specs.Calls as calls;
 ghost use Rattle.osal_script.specs.Cost as cost;
-ghost use Rattle.osal_script.specs.Saturated.{saturated};
+ghost use Rattle.osal_script.specs.Saturated.{saturated, prices_of};
 
 use crate::arguments::{named_at, only_id, only_name};
-use crate::cost::{body_cost, wait_cost};
+use crate::cost::{Prices, wait_cost};
 use crate::declarations::Declarations;
 use crate::line::held_in;
 use crate::registers::Registers;
 use crate::values::number_of;
-use crate::{Literal, Register};
+use crate::{BodyKind, Literal, Register};
 use osal_base::{OutOfMemory, Timeout};
 use osal_machine::Call;
 use std::alloc::Global;
@@ -139,12 +140,12 @@ impl TaskCall {
         }
     }
 
-    /// What its line costs beside its checkpoint and its call, where the bodies cost so much.
-    pub(crate) fn cost(&self, costs: &[u64; 64]) -> u64
-        ensures { result ≡ saturated (cost.task_cost (slice_index costs.now) self.now) }
+    /// What its line costs beside its checkpoint and its call.
+    pub(crate) fn cost(&self, prices: &Prices) -> u64
+        ensures { result ≡ saturated (cost.task_cost (prices_of prices.now) self.now) }
     {
         match self {
-            TaskCall::Create { body, .. } => body_cost(costs, *body).saturating_add(8),
+            TaskCall::Create { body, .. } => prices.body(*body).saturating_add(8),
             TaskCall::Delay { ms } => wait_cost(Timeout::Ms(*ms)),
             TaskCall::Exit
             | TaskCall::Delete { .. }
@@ -165,7 +166,7 @@ pub fn task_of_words(
     registers: &mut Registers,
 ) -> Result<Option<TaskCall>, OutOfMemory>
     ensures { IfOk result (λ made.
-        tasks.task_of_words (number_in declared.now begun) call (map (λ word. word.now) words.now) registers.old
+        tasks.task_of_words (number_in declared.now begun kind.Task) call (map (λ word. word.now) words.now) registers.old
         ≡ option_map (λ call. (call, registers.new)) made) }
 {
     match call {
@@ -190,7 +191,7 @@ fn create_of_words(
     registers: &mut Registers,
 ) -> Result<Option<TaskCall>, OutOfMemory>
     ensures { IfOk result (λ made.
-        tasks.create_of_words (number_in declared.now begun) (map (λ word. word.now) words.now) registers.old
+        tasks.create_of_words (number_in declared.now begun kind.Task) (map (λ word. word.now) words.now) registers.old
         ≡ option_map (λ call. (call, registers.new)) made) }
 {
     if words.len() != 5 {
@@ -199,7 +200,7 @@ fn create_of_words(
     let Some((register, name)) = named_at(alloc, words[0], words[1], registers)? else {
         return Ok(None);
     };
-    let Some(body) = registers.body_at(declared, begun, words[2]) else {
+    let Some(body) = registers.body_at(declared, begun, BodyKind::Task, words[2]) else {
         return Ok(None);
     };
     let Some((stack, priority)) = sizes_of(words[3], words[4]) else {

@@ -170,6 +170,42 @@ fn a_body_is_named_by_its_number(rt: HostRuntime) {
     assert!(rt; app.body(2).items().is_empty());
 }
 
+fn runs_handler(call: &ScriptCall, number: u32) -> bool {
+    match call {
+        ScriptCall::Timer(TimerCall::Add { handler, .. }) => *handler == number,
+        _ => false,
+    }
+}
+
+const HANDLERS: &str =
+    "osal-app 1\ntask main\ntimer_add $m \"m\" $b h\ntask_create $t \"w\" w 0 1\ntimer_add $n \"n\" $b last\nend\nhandler h\ntimer_add $m \"o\" $b last\nend\ntask w\nend\nhandler last\nend\n";
+
+const KINDS: [(&str, BodyKind); 4] = [
+    ("main", BodyKind::Task),
+    ("h", BodyKind::Handler),
+    ("w", BodyKind::Task),
+    ("last", BodyKind::Handler),
+];
+
+#[test]
+fn tasks_and_handlers_are_numbered_together(rt: HostRuntime) {
+    let Ok(app) = read(&rt, rt.alloc(), HANDLERS.as_bytes()) else {
+        panic!(rt; "refused");
+    };
+    assert_eq!(rt; app.bodies(), 4);
+    for (number, (name, kind)) in KINDS.iter().enumerate() {
+        let body = app.body(number as u32);
+        assert!(rt; body.name().as_slice() == name.as_bytes(), "{number}");
+        assert_eq!(rt; body.kind(), *kind, "{number}");
+    }
+    let main = app.main().items();
+    assert!(rt; runs_handler(&line_at(&rt, main, 0).call, 1));
+    assert!(rt; is_creation(&line_at(&rt, main, 1).call, 0, 1, 2));
+    assert!(rt; runs_handler(&line_at(&rt, main, 2).call, 3));
+    let handler = app.body(1).items();
+    assert!(rt; runs_handler(&line_at(&rt, handler, 0).call, 3));
+}
+
 fn task_letter(call: &TaskCall) -> u8 {
     match call {
         TaskCall::Create { .. } => b'C',
@@ -240,6 +276,26 @@ fn condvar_letter(call: &CondvarCall) -> u8 {
     }
 }
 
+fn timebase_letter(call: &TimebaseCall) -> u8 {
+    match call {
+        TimebaseCall::Create { .. } => b'C',
+        TimebaseCall::Tick { .. } => b'T',
+        TimebaseCall::FreeRun { .. } => b'R',
+        TimebaseCall::Delete { .. } => b'D',
+        TimebaseCall::Find { .. } => b'F',
+    }
+}
+
+fn timer_letter(call: &TimerCall) -> u8 {
+    match call {
+        TimerCall::Add { .. } => b'A',
+        TimerCall::Set { .. } => b'S',
+        TimerCall::Delete { .. } => b'D',
+        TimerCall::Find { .. } => b'F',
+        TimerCall::Info { .. } => b'I',
+    }
+}
+
 /// A letter for the kind of object, and one for the call.
 fn letters_of(call: &ScriptCall) -> (u8, u8) {
     match call {
@@ -249,6 +305,8 @@ fn letters_of(call: &ScriptCall) -> (u8, u8) {
         ScriptCall::BinSem(call) => (b'b', bin_sem_letter(call)),
         ScriptCall::Mutex(call) => (b'm', mutex_letter(call)),
         ScriptCall::Condvar(call) => (b'v', condvar_letter(call)),
+        ScriptCall::Timebase(call) => (b'k', timebase_letter(call)),
+        ScriptCall::Timer(call) => (b'r', timer_letter(call)),
         ScriptCall::Hold { .. } => (b'o', b'H'),
         ScriptCall::Release { .. } => (b'o', b'R'),
     }
@@ -267,7 +325,7 @@ fn push_letters(letters: &mut Vec<u8>, item: &Item) -> Result<(), Fail> {
     Ok(())
 }
 
-const ITEMS: [(&str, &str); 10] = [
+const ITEMS: [(&str, &str); 12] = [
     (
         "task_exit\ntask_delete $t\ntask_set_priority $t 7\ntask_find $t \"a\"\ntask_info $t\ntask_delay 20",
         "tXtDtPtFtItW",
@@ -291,6 +349,14 @@ const ITEMS: [(&str, &str); 10] = [
     (
         "condvar_create $v \"v\"\ncondvar_lock $v\ncondvar_unlock $v\ncondvar_signal $v\ncondvar_broadcast $v\ncondvar_wait $v 1\ncondvar_delete $v\ncondvar_find $v \"v\"",
         "vCvLvUvSvBvWvDvF",
+    ),
+    (
+        "timebase_create $b \"b\"\ntimebase_tick $b 4294967295\ntimebase_free_run $b\ntimebase_delete $b\ntimebase_find $b \"b\"",
+        "kCkTkRkDkF",
+    ),
+    (
+        "timer_set $m 0 0x10\ntimer_delete $m\ntimer_find $m \"m\"\ntimer_info $m",
+        "rSrDrFrI",
     ),
     (
         "hold $a\nrepeat 3\nrelease $a\nrepeat 0x10\nhold $a\nend\nend\nrelease $a",
@@ -369,7 +435,7 @@ fn a_payload_is_a_string_or_one_byte_many_times(rt: HostRuntime) -> Result<(), F
     Ok(())
 }
 
-const WRONG_ARGUMENTS: [&str; 28] = [
+const WRONG_ARGUMENTS: [&str; 36] = [
     "queue_create $q \"q\" 1",
     "queue_create $q \"q\" 1 1 1",
     "queue_create $q \"q\" 1 4294967296",
@@ -398,6 +464,14 @@ const WRONG_ARGUMENTS: [&str; 28] = [
     "condvar_lock $v pend",
     "condvar_wait $v",
     "condvar_signal \"v\"",
+    "timebase_create $b",
+    "timebase_tick $b",
+    "timebase_tick $b x",
+    "timebase_tick $b 1 1",
+    "timer_add $m \"m\" $b",
+    "timer_add $m \"m\" $b \"h\"",
+    "timer_set $m 1",
+    "timer_set $m 1 4294967296",
 ];
 
 #[test]
@@ -416,7 +490,61 @@ fn wrong_arguments_are_refused(rt: HostRuntime) -> Result<(), Fail> {
     Ok(())
 }
 
-const REFUSED: [(&str, u32, &str); 46] = [
+const IN_A_HANDLER: [(&str, Option<FaultKind>); 24] = [
+    // what only a task may do, whatever the arguments are
+    ("task_create $t \"a\" main 0 1", Some(FaultKind::Place)),
+    ("task_create", Some(FaultKind::Place)),
+    ("task_exit", Some(FaultKind::Place)),
+    ("task_exit 1", Some(FaultKind::Place)),
+    ("task_delay 0", Some(FaultKind::Place)),
+    ("task_delay x", Some(FaultKind::Place)),
+    ("timebase_tick $b 1", Some(FaultKind::Place)),
+    ("timebase_tick $b", Some(FaultKind::Place)),
+    ("mut_sem_take $m", Some(FaultKind::Place)),
+    ("mut_sem_take", Some(FaultKind::Place)),
+    ("condvar_lock $v", Some(FaultKind::Place)),
+    ("condvar_lock $v pend", Some(FaultKind::Place)),
+    ("condvar_wait $v check", Some(FaultKind::Place)),
+    ("condvar_wait", Some(FaultKind::Place)),
+    ("repeat 2", Some(FaultKind::Place)),
+    ("repeat x", Some(FaultKind::Place)),
+    // a wait is `check`
+    ("bin_sem_take $s pend", Some(FaultKind::Argument)),
+    ("count_sem_take $c 1", Some(FaultKind::Argument)),
+    ("queue_get $q 8 5", Some(FaultKind::Argument)),
+    ("bin_sem_take $s check", None),
+    ("count_sem_take $c check", None),
+    ("queue_get $q 8 check", None),
+    ("task_delete $t -> OS_SUCCESS", None),
+    (
+        "timebase_free_run $b\ntimer_info $m\nmut_sem_give $m\nhold $b",
+        None,
+    ),
+];
+
+#[test]
+fn a_handler_neither_waits_nor_repeats(rt: HostRuntime) -> Result<(), Fail> {
+    for (lines, wanted) in IN_A_HANDLER {
+        let mut text = Vec::from_slice(
+            rt.alloc(),
+            b"osal-app 1\ntask main\nend\nhandler h\n".as_slice(),
+        )?;
+        text.extend_from_slice(lines.as_bytes())?;
+        text.extend_from_slice(b"\nend\n".as_slice())?;
+        match (read(&rt, rt.alloc(), text.as_slice()), wanted) {
+            (Ok(_), None) => {}
+            (Err(fault), Some(kind)) => assert_eq!(rt;
+                fault,
+                ParseFault::Bad(AppFault { line: 5, kind }),
+                "{lines}"
+            ),
+            _ => panic!(rt; "{lines}"),
+        }
+    }
+    Ok(())
+}
+
+const REFUSED: [(&str, u32, &str); 58] = [
     // the worked refusals
     ("osal-app 3", 1, "header"),
     ("osal-app 1\n#\x07", 2, "byte"),
@@ -424,7 +552,7 @@ const REFUSED: [(&str, u32, &str); 46] = [
     ("osal-app 1\ntask main\nbin_sem_give $s\n", 4, "end"),
     ("osal-app 1\ntask main\nfrob\nend\n", 3, "word"),
     ("osal-app 1\nbin_sem_give $s\n", 2, "place"),
-    ("osal-app 1\nhandler h\nend\n", 2, "unbuilt"),
+    ("osal-app 1\nhandler h\nend\n", 2, "place"),
     (
         "osal-app 1\ntask main\ntask_delay 4294967296\nend\n",
         3,
@@ -453,8 +581,8 @@ const REFUSED: [(&str, u32, &str); 46] = [
     ("osal-app 1\ntask main\nend\ntask main\nend\n", 4, "body"),
     (
         "osal-app 1\ntask main\nend\nhandler h\ntask_delay 1\nend\n",
-        4,
-        "unbuilt",
+        5,
+        "place",
     ),
     // the header and the end
     ("", 1, "header"),
@@ -464,7 +592,7 @@ const REFUSED: [(&str, u32, &str); 46] = [
     ("osal-app 1\nosal-app 1\n", 2, "place"),
     ("osal-app 1\ntask main\nrepeat 1\nend\n", 5, "end"),
     // what is not built yet stands before the place and the form
-    ("osal-app 1\ntimer_set\n", 2, "unbuilt"),
+    ("osal-app 1\nmkfs\n", 2, "unbuilt"),
     ("osal-app 1\ntask main\nread $f 8 pend\n", 3, "unbuilt"),
     // where a line may stand
     ("osal-app 1\nrepeat 1\n", 2, "place"),
@@ -477,9 +605,20 @@ const REFUSED: [(&str, u32, &str); 46] = [
         4,
         "place",
     ),
+    ("osal-app 1\nhandler\n", 2, "place"),
+    ("osal-app 1\ntask main\nhandler h\n", 3, "place"),
+    ("osal-app 1\ntask main\nhandler\n", 3, "place"),
+    (
+        "osal-app 1\ntask main\nend\nhandler h\nhandler k\n",
+        5,
+        "place",
+    ),
     // the form of its words
     ("osal-app 1\ntask\n", 2, "argument"),
     ("osal-app 1\ntask a-b\n", 2, "argument"),
+    ("osal-app 1\ntask main\nend\nhandler\n", 4, "argument"),
+    ("osal-app 1\ntask main\nend\nhandler a-b\n", 4, "argument"),
+    ("osal-app 1\ntask main\nend\nhandler a b\n", 4, "argument"),
     ("osal-app 1\ntask main\nend x\n", 3, "argument"),
     ("osal-app 1\ntask main\nrepeat\n", 3, "argument"),
     ("osal-app 1\ntask main\nrepeat 4294967296\n", 3, "argument"),
@@ -533,6 +672,28 @@ const REFUSED: [(&str, u32, &str); 46] = [
         "osal-app 1\ntask main\ntask_create $t \"a\" h 0 1\nend\nhandler h\nend\n",
         3,
         "body",
+    ),
+    // a task and a handler have no name in common, and each is named where its kind is asked for
+    ("osal-app 1\ntask main\nend\nhandler main\nend\n", 4, "body"),
+    (
+        "osal-app 1\ntask main\nend\nhandler h\nend\ntask h\nend\n",
+        6,
+        "body",
+    ),
+    (
+        "osal-app 1\ntask main\ntimer_add $m \"m\" $b w\nend\ntask w\nend\n",
+        3,
+        "body",
+    ),
+    (
+        "osal-app 1\ntask main\nend\nhandler h\nend\ntask w\ntimer_add $m \"m\" $b h\nend\n",
+        7,
+        "body",
+    ),
+    (
+        "osal-app 1\ntask main\ntimer_add $m \"m\" $b h\n\thandler h\r\n",
+        4,
+        "place",
     ),
 ];
 

@@ -11,20 +11,11 @@ use crate::grammar::{CallWord, FirstWord};
 use crate::mutexes::mutex_word;
 use crate::queues::queue_word;
 use crate::tasks::task_word;
+use crate::timebases::timebase_word;
+use crate::timers::timer_word;
 
 /// The words whose lines are not read yet.
-const UNBUILT: [&str; 44] = [
-    "handler",
-    "timebase_create",
-    "timebase_tick",
-    "timebase_free_run",
-    "timebase_delete",
-    "timebase_find",
-    "timer_find",
-    "timer_add",
-    "timer_set",
-    "timer_delete",
-    "timer_info",
+const UNBUILT: [&str; 33] = [
     "mkfs",
     "mount",
     "unmount",
@@ -70,6 +61,9 @@ pub fn first_word(text: &[u8]) -> Option<FirstWord>
     if text == b"task".as_slice() {
         return Some(FirstWord::Task);
     }
+    if text == b"handler".as_slice() {
+        return Some(FirstWord::Handler);
+    }
     if text == b"repeat".as_slice() {
         return Some(FirstWord::Repeat);
     }
@@ -114,7 +108,13 @@ fn object_word(text: &[u8]) -> Option<CallWord>
     if let Some(call) = mutex_word(text) {
         return Some(CallWord::Mutex(call));
     }
-    Some(CallWord::Condvar(condvar_word(text)?))
+    if let Some(call) = condvar_word(text) {
+        return Some(CallWord::Condvar(call));
+    }
+    if let Some(call) = timebase_word(text) {
+        return Some(CallWord::Timebase(call));
+    }
+    Some(CallWord::Timer(timer_word(text)?))
 }
 
 fn unbuilt_word(text: &[u8]) -> Option<FirstWord>

@@ -61,16 +61,6 @@ impl<'a> Walk<'a> {
         }
     }
 
-    /// The same walk once more.
-    pub fn copy(&self) -> Walk<'a>
-        ensures { result ≡ self.now }
-    {
-        Walk {
-            items: self.items,
-            place: self.place,
-        }
-    }
-
     /// The line that comes next, if there is one.
     pub fn line(&self) -> Option<&'a Line>
         ensures { option_copied result ≡ first_of self.now }

@@ -1,6 +1,6 @@
 //! The binary semaphore part of the machine.
 ghost use Rattle.std.specs.Prelude.{◌≡◌, false, IsTrue, IsOk, IfOk, OnErr};
-ghost use Rattle.osal_base.specs.Reply.{replied};
+ghost use Rattle.osal_base.specs.Reply.{replied, success};
 ghost use Rattle.osal_machine.specs.Call.{takes_memory};
 ghost use Rattle.osal_machine.specs.Parts.{BinSems};
 ghost use Rattle.osal_machine.specs.Views.{Alone, is_own, view_step, is_ready_in, is_active_at, goes_at};

@@ -1,14 +1,15 @@
 //! The time part of the machine.
 ghost use Rattle.std.specs.Prelude.{◌≡◌, false, IsTrue, IsOk, IfOk, OnErr};
-ghost use Rattle.osal_base.specs.Reply.{replied};
+ghost use Rattle.osal_base.specs.Reply.{replied, success};
 ghost use Rattle.osal_machine.specs.Call.{takes_memory};
 ghost use Rattle.osal_machine.specs.Parts.{Time};
 ghost use Rattle.osal_machine.specs.Views.{Alone, is_own, view_step, is_ready_in, is_active_at, goes_at};
 ghost use Rattle.osal_machine.specs.declared.call.Call.TheVariants.{WaitEnd};
 
 use super::absent;
-use crate::{Call, Part, TimePart};
+use crate::{Call, Part};
 use osal_base::{Ack, Moment, OsalId, OutOfMemory, Room};
+use osal_time::TimePart;
 use std::alloc::Global;
 
 impl Part for TimePart {
@@ -23,11 +24,34 @@ impl Part for TimePart {
         room: &mut Room,
     ) -> Result<Ack, OutOfMemory> {
         match call {
+            Call::TimebaseCreate { name } => self.timebase_create(alloc, task, now, name, room),
+            Call::TimebaseTick { id, usecs } => {
+                self.timebase_tick(alloc, task, now, *id, *usecs, room)
+            }
+            Call::TimebaseFreeRun { id } => self.timebase_free_run(alloc, task, now, *id, room),
+            Call::TimebaseDelete { id } => self.timebase_delete(alloc, task, now, *id, room),
+            Call::TimebaseFind { name } => self.timebase_find(alloc, task, now, name, room),
+            Call::TimerAdd {
+                name,
+                timebase,
+                handler,
+            } => self.timer_add(alloc, task, now, name, *timebase, *handler, room),
+            Call::TimerSet {
+                id,
+                start,
+                interval,
+            } => self.timer_set(alloc, task, now, *id, *start, *interval, room),
+            Call::TimerDelete { id } => self.timer_delete(alloc, task, now, *id, room),
+            Call::TimerFind { name } => self.timer_find(alloc, task, now, name, room),
+            Call::TimerInfo { id } => self.timer_info(alloc, task, now, *id, room),
             Call::Advance { to } => self.advance(alloc, task, now, *to, room),
-            _ => {
+            Call::Hold { id } => self.hold(alloc, task, now, *id, room),
+            Call::Release { id } => self.release(alloc, task, now, *id, room),
+            Call::WaitEnd { .. } | Call::WaitAbandon { .. } => {
                 room.clear();
                 Ok(absent(call))
             }
+            _ => unreachable!(),
         }
     }
 
@@ -35,8 +59,8 @@ impl Part for TimePart {
         true
     }
 
-    fn active(&self, _id: OsalId) -> bool {
-        false
+    fn active(&self, id: OsalId) -> bool {
+        self.active(id)
     }
 
     fn goes(&self, _task: OsalId) -> bool {

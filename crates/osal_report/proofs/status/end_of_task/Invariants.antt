@@ -9,4 +9,4 @@ use Rattle.osal_report.proofs.status.end_of_task.Given as goal
 
 abbrev pub invariant-loop-entry : goal.invariant-loop-entry
 invariant-loop-entry l =
-    Ends l.reading.cursor l.reading.fails (entries_of l.app l.id (drop l.entry-index l.entries)) (is_stalled (reached (start_of l.body) (entries_of l.app l.id l.entries)).phase) (failed (cases_from (start_of l.body) (entries_of l.app l.id l.entries)) == 0)
+    Ends l.reading.cursor l.reading.fails (entries_of l.app l.id (drop l.entry-index l.entries)) (is_stalled (reached (start_of l.app.bodies l.body) (entries_of l.app l.id l.entries)).phase) (failed (cases_from (start_of l.app.bodies l.body) (entries_of l.app l.id l.entries)) == 0)

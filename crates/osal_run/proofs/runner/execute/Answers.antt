@@ -22,6 +22,6 @@ returns-clause-told g c =
     let run = c.drive.ensures.settled c.in-Settled.is in
     half_reported (g.K.Sink.written c.args.sink.now) (g.K.Sink.written c.write_text.new.sink) c.args.app.now c.drive.new.journal.entries c.as_slice.result.now run.part (c.as_slice.ensures ∙ c.in-Ok.ensures) c.in-Err.ensures.prefix
 
-pub returns-in-NoMemory-clause-told : goal.returns-in-NoMemory-clause-told
-returns-in-NoMemory-clause-told g c =
-    unreported (g.K.Sink.written c.args.sink.now) c.args.app.now c.drive.new.journal.entries (c.drive.ensures.memory c.in-NoMemory.is)
+pub returns-in-OutOfMemory-clause-told : goal.returns-in-OutOfMemory-clause-told
+returns-in-OutOfMemory-clause-told g c =
+    unreported (g.K.Sink.written c.args.sink.now) c.args.app.now c.drive.new.journal.entries (c.drive.ensures.memory c.in-OutOfMemory.is)

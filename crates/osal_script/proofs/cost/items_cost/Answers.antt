@@ -1,6 +1,6 @@
-use Rattle.std.proofs.Common.{◌≡◌, ◌+◌, ◌-◌, ◌∙◌, ℕ, Some, length, drop, slice_index, sym, ap, map, arith}
+use Rattle.std.proofs.Common.{◌≡◌, ◌+◌, ◌-◌, ◌∙◌, ℕ, Some, length, drop, sym, ap, map, arith}
 use Rattle.osal_script.specs.declared.app.Item.TheVariants as item
-use Rattle.osal_script.specs.Saturated.{saturated, repeated_saturated}
+use Rattle.osal_script.specs.Saturated.{saturated, repeated_saturated, prices_of}
 use Rattle.osal_script.specs.Cost.{level_costs}
 use Rattle.osal_script.specs.Nesting.{depth_after}
 use Rattle.osal_script.proofs.Nesting.{repeat_nested, end_nested}
@@ -10,7 +10,7 @@ use Rattle.osal_script.proofs.cost.items_cost.Goals as goal
 pub add-requires : goal.add-requires
 add-requires c =
     let here = nested_at c.loop-at.at c.args.items.now c.requires in
-    let many = length_saturated (slice_index c.args.costs.now) here.0 (drop c.loop-at.at c.args.items.now) here.2 in
+    let many = length_saturated (prices_of c.args.prices.now) here.0 (drop c.loop-at.at c.args.items.now) here.2 in
     omega (arith, ap length c.loop-at.invariant.levels, many)
 
 pub repeat-requires : goal.repeat-requires
@@ -20,13 +20,13 @@ repeat-requires c =
     let before = one_before items c.loop-at.at c.index-items-at.result (item.Repeat c.in-Repeat.count) (omega arith) (omega arith) c.index-items-at.is c.in-Repeat.is in
     let here = nested_at (c.loop-at.at - 1) items c.requires in
     let nested = rw before at here.2 in
-    let many = length_saturated (slice_index c.args.costs.now) (here.0 + 1) rest (repeat_nested here.0 c.in-Repeat.count 0 rest nested).2 in
+    let many = length_saturated (prices_of c.args.prices.now) (here.0 + 1) rest (repeat_nested here.0 c.in-Repeat.count 0 rest nested).2 in
     omega (arith, ap length c.loop-at.invariant.levels, many)
 
 pub loop-at-preserved-in-Repeat : goal.loop-at-preserved-in-Repeat
 loop-at-preserved-in-Repeat c =
     let items = c.args.items.now in
-    let costs = level_costs (slice_index c.args.costs.now) in
+    let costs = level_costs (prices_of c.args.prices.now) in
     let before = one_before items c.loop-at.at c.index-items-at.result (item.Repeat c.in-Repeat.count) (omega arith) (omega arith) c.index-items-at.is c.in-Repeat.is in
     record {
       within = omega arith;
@@ -45,7 +45,7 @@ end-requires c =
     let here = nested_at (c.loop-at.at - 1) items c.requires in
     let nested = rw before at here.2 in
     let both = end_nested here.0 0 rest nested in
-    let many = length_saturated (slice_index c.args.costs.now) (here.0 - 1) rest both.1 in
+    let many = length_saturated (prices_of c.args.prices.now) (here.0 - 1) rest both.1 in
     omega (arith, ap length c.loop-at.invariant.levels, many, both.0, here.1)
 
 pub outermost-requires : goal.outermost-requires
@@ -53,5 +53,5 @@ outermost-requires c =
     let items = c.args.items.now in
     let all : c.loop-at.at ≡ 0 = omega arith in
     let nested : depth_after 0 (drop c.loop-at.at items) ≡ Some 0 = ap (λ (n : ℕ). depth_after 0 (drop n items)) all ∙ c.requires in
-    let many = length_saturated (slice_index c.args.costs.now) 0 (drop c.loop-at.at items) nested in
+    let many = length_saturated (prices_of c.args.prices.now) 0 (drop c.loop-at.at items) nested in
     omega (arith, ap length c.loop-at.invariant.levels, many)

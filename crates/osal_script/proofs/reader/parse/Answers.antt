@@ -1,10 +1,10 @@
 use Rattle.std.proofs.Common.{List, ℕ, Ok, refl, ap, sym, ◌∙◌, arith}
 use Rattle.osal_script.specs.Words.{lines_of}
-use Rattle.osal_script.specs.Declarations.{declared}
+use Rattle.osal_script.specs.Declarations.{Declared, declared}
 use Rattle.osal_script.specs.Places.{number_in}
 use Rattle.osal_script.specs.Draft.{begun}
 use Rattle.osal_script.specs.Reading as reading
-use Rattle.osal_script.proofs.Lookups.{names_behind, read_on, refused_at}
+use Rattle.osal_script.proofs.Lookups.{bodies_behind, read_on, refused_at}
 use Rattle.osal_script.proofs.Sound.{reading_sound}
 use Rattle.osal_script.proofs.reader.parse.Goals as goal
 
@@ -19,11 +19,11 @@ pub loop-line-preserved : goal.loop-line-preserved
 loop-line-preserved c =
     let d = c.loop-line.draft in
     let after = c.in-Ok-read_line.read in
-    let names : List (List ℕ) = declared (lines_of c.args.bytes.now) in
+    let bodies : List Declared = declared (lines_of c.args.bytes.now) in
     let lines : List (List ℕ) = lines_of c.in-Some.after.now in
     let left = c.loop-line.invariant.3 ∙ ap declared c.in-Some.ensures.0 in
-    let rest = read_on c.in-Ok.declared names lines (lines_of c.loop-line.rest.now) d c.loop-line.number c.in-Some.line.now (Ok after) (reading.reading_of c.args.bytes.now) c.in-Ok.ensures c.in-Some.ensures.0 c.loop-line.invariant.2 c.loop-line.invariant.3 c.loop-line.invariant.1 c.in-Ok-read_line.ensures in
-    let behind = names_behind (number_in c.in-Ok.declared (begun d)) names lines d after c.loop-line.number c.in-Some.line.now c.in-Ok-read_line.ensures c.loop-line.invariant.2 left in
+    let rest = read_on c.in-Ok.declared bodies lines (lines_of c.loop-line.rest.now) d c.loop-line.number c.in-Some.line.now (Ok after) (reading.reading_of c.args.bytes.now) c.in-Ok.ensures c.in-Some.ensures.0 c.loop-line.invariant.2 c.loop-line.invariant.3 c.loop-line.invariant.1 c.in-Ok-read_line.ensures in
+    let behind = bodies_behind (number_in c.in-Ok.declared (begun d)) bodies lines d after c.loop-line.number c.in-Some.line.now c.in-Ok-read_line.ensures c.loop-line.invariant.2 left in
     (omega (arith, c.in-Some.ensures.1), rest, behind.0, behind.1)
 
 pub read_finish-requires : goal.read_finish-requires

@@ -7,7 +7,7 @@ use Rattle.osal_script.proofs.declarations.Declarations.of.Given as goal
 abbrev pub invariant-loop-line : goal.invariant-loop-line
 invariant-loop-line l =
     (l.count + length l.rest ≤ length l.text)
-    × Filled l.places (declared (lines_of l.text)) l.count (declared (lines_of l.rest))
+    × Filled l.found (declared (lines_of l.text)) l.count (declared (lines_of l.rest))
 
 abbrev pub decreases-loop-line : goal.decreases-loop-line
 decreases-loop-line l = length l.rest

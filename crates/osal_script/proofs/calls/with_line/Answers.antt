@@ -1,7 +1,7 @@
 use Rattle.std.proofs.Common.{◌∙◌, ap}
 use Rattle.osal_script.specs.Nesting.{depth_after}
 use Rattle.osal_script.proofs.Repeats.{open_behind}
-use Rattle.osal_script.proofs.calls.body_after.Goals as goal
+use Rattle.osal_script.proofs.calls.with_line.Goals as goal
 
 pub invariant_of-result : goal.invariant_of-result
 invariant_of-result c =

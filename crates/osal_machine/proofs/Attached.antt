@@ -1,0 +1,84 @@
+-- In every history the timers are attached to their timebases, so that a tick tells of few.
+use Rattle.std.proofs.Common.{◌≡◌, ◌≤◌, ◌*◌, ◌+◌, ◌==◌, ℕ, List, [], ◌∷◌, length, min, nat_lt, Option, Some, None, refl, sym, ap, subst, ◌∙◌, arith}
+use Rattle.std.proofs.lemmas.Bool.{cond_both}
+use Rattle.std.proofs.lemmas.List.{length-append}
+use Rattle.osal_base.specs.declared.limits.Limits.{Limits}
+use Rattle.osal_base.specs.declared.time.Moment.{Moment}
+use Rattle.osal_base.specs.Limits.{Fits, version1}
+use Rattle.osal_base.specs.Reply.{Replied}
+use Rattle.osal_idtable.specs.Table.{Active}
+use Rattle.osal_time.specs.Timebase.{Timebase, sum_limit, timer_limit}
+use Rattle.osal_time.specs.Ticks.{Firing, firings, bytes_of, ticked, timebase_tick_step}
+use Rattle.osal_time.specs.Time.{TimeState, timebase_at}
+use Rattle.osal_time.specs.Attachment.{AreAttached}
+use Rattle.osal_time.proofs.Attached.{timers_stay_attached}
+use Rattle.osal_time.proofs.FewFire.{few_fire}
+use Rattle.osal_machine.specs.declared.call.Call.{Call}
+use Rattle.osal_machine.specs.declared.call.Call.TheVariants as call
+use Rattle.osal_machine.specs.declared.call.Entry.{Entry}
+use Rattle.osal_machine.specs.Parts.{time_step}
+use Rattle.osal_machine.specs.Step.{MachineState, opening, step}
+use Rattle.osal_machine.specs.History.{after_entry, replay_from, replay}
+use Rattle.osal_machine.specs.Laws.{TicksFireFew}
+use Rattle.osal_machine.proofs.Histories.{legal_last}
+use Rattle.osal_machine.proofs.Own.{after_time}
+
+-- a call of the time part leaves the timers attached
+attached_by : (limits : Limits) (time : TimeState) (made : Call) → AreAttached limits.timers time → AreAttached limits.timers (time_step time made).1
+attached_by limits time (call.TimebaseCreate name) all = (timers_stay_attached limits).create time name.bytes all
+attached_by limits time (call.TimebaseTick id usecs) all = (timers_stay_attached limits).tick time id usecs all
+attached_by limits time (call.TimebaseDelete id) all = (timers_stay_attached limits).delete time id all
+attached_by limits time (call.TimerAdd name timebase handler) all =
+    (timers_stay_attached limits).add time name.bytes timebase handler all
+attached_by limits time (call.TimerSet id start interval) all =
+    (timers_stay_attached limits).set time id start interval all
+attached_by limits time (call.TimerDelete id) all = (timers_stay_attached limits).remove time id all
+attached_by limits time (call.Hold id) all = (timers_stay_attached limits).hold time id all
+attached_by limits time (call.Release id) all = (timers_stay_attached limits).release time id all
+attached_by limits time (call.Advance to) all = (timers_stay_attached limits).advance time to all
+attached_by limits time other all = all
+
+-- a call of the machine leaves the timers attached
+pub attached_kept : (n : ℕ) (state : MachineState) (task : ℕ) (now : Moment) (made : Call) → AreAttached n state.time → AreAttached n (step state task now made).1.time
+attached_kept n state task now made all =
+    after_time state task now made (AreAttached n) all (attached_by (record version1 { timers = n }) state.time made all)
+
+attached_from : (n : ℕ) (entries : List Entry) (state : MachineState) → AreAttached n state.time → AreAttached n (replay_from state entries).time
+attached_from n [] state all = all
+attached_from n (entry ∷ entries) state all =
+    attached_from n entries (after_entry state entry) (attached_kept n state entry.task entry.now entry.call all)
+
+-- in every history the timers are attached
+pub attached_replayed : (limits : Limits) (entries : List Entry) → Fits limits → AreAttached limits.timers (replay limits entries).time
+attached_replayed limits entries fits =
+    attached_from limits.timers entries (opening limits) ((timers_stay_attached limits).start fits)
+
+-- a firing is told in twelve bytes
+twelve_each : (firings : List Firing) → length (bytes_of firings) ≡ 12 * length firings
+twelve_each [] = refl
+twelve_each (firing ∷ firings) = let rest = twelve_each firings in grind (arith, length-append)
+
+ticked_few : (n : ℕ) (time : TimeState) (id usecs : ℕ) (found : Option (Active Timebase)) → AreAttached n time → timebase_at time id ≡ found → length (ticked time id usecs found).0.bytes ≤ 12 * min timer_limit n
+ticked_few n time id usecs None all is = omega arith
+ticked_few n time id usecs (Some active) all is =
+    let to = active.object.sum + usecs in
+    let few = few_fire time n id active active.object.sum to all is in
+    let long = twelve_each (firings time.timers.table active.object.sum to active.object.timers) in
+    cond_both (nat_lt sum_limit to) _ _ (λ (stepped : Replied × TimeState). length stepped.0.bytes ≤ 12 * min timer_limit n)
+    (λ past. omega arith)
+    (λ within. omega arith)
+
+-- a tick tells of few timers where they are attached
+pub tick_few : (n : ℕ) (time : TimeState) (id usecs : ℕ) → AreAttached n time → length (timebase_tick_step time id usecs).0.bytes ≤ 12 * min timer_limit n
+tick_few n time id usecs all =
+    cond_both (usecs == 0) _ _ (λ (stepped : Replied × TimeState). length stepped.0.bytes ≤ 12 * min timer_limit n)
+    (λ none. omega arith)
+    (λ some. ticked_few n time id usecs (timebase_at time id) all refl)
+
+-- in every legal history a tick tells of few timers
+pub ticks_few : TicksFireFew
+ticks_few limits before entry id usecs fits legal is =
+    let state = replay limits before in
+    let few = tick_few limits.timers state.time id usecs (attached_replayed limits before fits) in
+    subst (λ (reply : Replied). length reply.bytes ≤ 12 * min timer_limit limits.timers)
+    (sym (legal_last (opening limits) before entry legal ∙ ap (λ made. (step state entry.task entry.now made).0) is)) few

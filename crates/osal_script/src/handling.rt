@@ -1,0 +1,224 @@
+//! The handlers that a tick runs.
+ghost use Rattle.std.specs.Prelude.{◌≡◌, ◌+◌, ◌<◌, ◌≤◌, ◌++◌, [], ◌∷◌, length, option_copied, slice_get, drop};
+ghost use Rattle.std.specs.Int.{from_be_bytes, w32};
+ghost use Rattle.osal_base.specs.Reply.{reply_of};
+ghost use Rattle.osal_script.specs.Calls.{register_of};
+ghost use Rattle.osal_script.specs.Script as script;
+ghost use Rattle.osal_script.specs.Script.{group_number, handler_lines, handler_numbers, in_body, put_in};
+ghost use Rattle.osal_time.specs.Timebase.{timer_limit};
+ghost use Rattle.osal_script.specs.Handling.{no_handlers, pending_in, registers_in};
+ghost use Rattle.osal_script.specs.Walk.{first_of};
+
+use crate::line::set_register;
+use crate::walk::Walk;
+use crate::{App, BodyKind, Line, ScriptCall};
+use osal_base::{Answer, Reply};
+use std::marker::Model;
+
+/// The most timers that fire in a tick.
+pub(crate) const TIMER_LIMIT: u32 = 64;
+
+/// The bytes that a tick gives of each timer that fires; the last four are the number of its handler.
+const GROUP: usize = 12;
+
+/// The numbers of the bodies that a tick's bytes name and that have not had their turn, the next one on top.
+#[derive(Drop)]
+struct Waiting {
+    count: usize,
+    numbers: [u32; 64],
+}
+
+impl Model for Waiting {
+    ghost use Rattle.std.specs.Prelude.{◌≡◌, ◌≤◌, List, ℕ, length, take, reverse};
+
+    ghost Value = { List ℕ };
+
+    ghost view = { λ a. reverse (take a.count a.numbers) };
+
+    ghost invariant = { λ a. (a.count ≤ 64) × (length a.numbers ≡ 64) };
+}
+
+impl Waiting {
+    /// Nothing waits.
+    fn none() -> Waiting
+        ensures { result ≡ [] }
+    {
+        Waiting {
+            count: 0,
+            numbers: [0; 64],
+        }
+    }
+
+    /// Puts a number on top.
+    fn push(&mut self, number: u32)
+        requires { length self.old < 64 }
+        ensures { self.new ≡ number ∷ self.old }
+    {
+        self.numbers[self.count] = number;
+        self.count += 1;
+    }
+
+    /// Takes the number on top.
+    fn pop(&mut self) -> Option<u32>
+        ensures top { result ≡ slice_get self.old 0 }
+        ensures rest { self.new ≡ drop 1 self.old }
+    {
+        if self.count == 0 {
+            return None;
+        }
+        self.count -= 1;
+        Some(self.numbers[self.count])
+    }
+}
+
+/// The handlers of the last tick: those that wait, and what is left of the one that has its turn.
+///
+/// A handler without lines has no turn.
+#[derive(Drop)]
+pub(crate) struct Handling<'a> {
+    app: &'a App,
+    walk: Walk<'a>,
+    begun: bool,
+    /// The registers of the handler that runs or has run.
+    registers: [u32; 32],
+    waiting: Waiting,
+}
+
+impl<'a> Model for Handling<'a> {
+    ghost use Rattle.std.specs.Prelude.{◌≡◌, []};
+    ghost use Rattle.osal_script.specs.Handling.{HandlingState};
+
+    ghost Value = { HandlingState };
+
+    ghost view = { λ a. record {
+      bodies = a.app.now.bodies;
+      lines = a.walk;
+      begun = a.begun;
+      waiting = a.waiting;
+      registers = a.registers;
+    } };
+
+    ghost invariant = { λ a. a.walk ≡ [] → a.waiting ≡ [] };
+}
+
+impl<'a> Handling<'a> {
+    /// No handlers.
+    pub fn new(app: &'a App) -> Handling<'a>
+        ensures { result ≡ no_handlers app.now.bodies }
+    {
+        Handling {
+            app,
+            walk: Walk::new(&[]),
+            begun: false,
+            registers: [0; 32],
+            waiting: Waiting::none(),
+        }
+    }
+
+    /// The handlers' line that comes next, if there is one.
+    pub fn line(&self) -> Option<&'a Line>
+        ensures first { option_copied result ≡ first_of self.now.lines }
+        ensures last { self.now.lines ≡ [] → self.now.waiting ≡ [] }
+    {
+        self.walk.line()
+    }
+
+    /// The registers that the next line uses: each is at 0 where the line is the handler's first.
+    pub fn frame(&self) -> [u32; 32]
+        ensures { result ≡ registers_in self.now }
+    {
+        if self.begun { self.registers } else { [0; 32] }
+    }
+
+    /// Goes past the next line, which makes that call, and its reply.
+    pub fn pass(&mut self, call: &ScriptCall, reply: &Reply)
+        ensures pending { pending_in self.new ≡ drop 1 (pending_in self.old) }
+        ensures registers { self.new.registers
+            ≡ script.registers_after (register_of call.now) (reply_of reply.now) (registers_in self.old) }
+        ensures bodies { self.new.bodies ≡ self.old.bodies }
+    {
+        let mut registers = self.frame();
+        set_register(&mut registers, call, reply);
+        self.registers = registers;
+        let walk = self.walk.behind();
+        if walk.line().is_some() {
+            self.walk = walk;
+            self.begun = true;
+            return;
+        }
+        self.walk = next_walk(self.app, &mut self.waiting);
+        self.begun = false;
+    }
+
+    /// Goes past a line of the body and its reply: a tick that succeeds brings handlers.
+    pub fn fire(&mut self, line: &Line, reply: &Reply)
+        requires { pending_in self.old ≡ [] }
+        ensures pending { pending_in self.new ≡ script.fired self.old.bodies (in_body line.now) (reply_of reply.now) }
+        ensures registers { self.new.registers ≡ self.old.registers }
+        ensures bodies { self.new.bodies ≡ self.old.bodies }
+    {
+        if !line.call.is_tick() || reply.answer != Answer::Code(0) {
+            return;
+        }
+        let mut waiting = handlers_in(reply.bytes.as_slice());
+        self.walk = next_walk(self.app, &mut waiting);
+        self.begun = false;
+        self.waiting = waiting;
+    }
+}
+
+/// The walk of the next handler that has a line, or of none.
+fn next_walk<'a>(app: &'a App, waiting: &mut Waiting) -> Walk<'a>
+    ensures lines { script.of_handler result ++ put_in app.now.bodies waiting.new ≡ put_in app.now.bodies waiting.old }
+    ensures last { result ≡ [] → waiting.new ≡ [] }
+{
+    loop {
+        let Some(number) = waiting.pop() else {
+            return Walk::new(&[]);
+        };
+        let walk = handler_walk(app, number);
+        if walk.line().is_some() {
+            return walk;
+        }
+    }
+}
+
+/// The walk of the handler of that number, or of none where that number is no handler's.
+fn handler_walk<'a>(app: &'a App, number: u32) -> Walk<'a>
+    ensures { script.of_handler result ≡ handler_lines (slice_get app.now.bodies number) }
+{
+    if app.bodies() <= number {
+        return Walk::new(&[]);
+    }
+    let body = app.body(number);
+    match body.kind() {
+        BodyKind::Handler => Walk::new(body.items()),
+        BodyKind::Task => Walk::new(&[]),
+    }
+}
+
+/// The numbers of the handlers that a tick's bytes name.
+fn handlers_in(bytes: &[u8]) -> Waiting
+    ensures { result ≡ handler_numbers timer_limit bytes.now }
+{
+    let mut waiting = Waiting::none();
+    let mut at = (bytes.len() / GROUP).min(TIMER_LIMIT as usize);
+    while 0 < at {
+        at -= 1;
+        waiting.push(number_at(bytes, GROUP * at));
+    }
+    waiting
+}
+
+/// The number of the handler in the group that starts there.
+fn number_at(bytes: &[u8], start: usize) -> u32
+    requires { start + 12 ≤ length bytes.now }
+    ensures { result ≡ group_number (drop start bytes.now) }
+{
+    u32::from_be_bytes([
+        bytes[start + 8],
+        bytes[start + 9],
+        bytes[start + 10],
+        bytes[start + 11],
+    ])
+}

@@ -1,0 +1,227 @@
+-- Each timebase has active timers of its own, each once, whatever the calls of the part.
+use Rattle.std.proofs.Common.{◌≡◌, ◌<◌, ◌+◌, ◌==◌, ◌&&◌, ℕ, List, [], ◌∷◌, length, nat_lt, is_some, Option, Some, None, Result, Ok, Err, refl, sym, ap, subst, ◌∙◌, inl, inr, arith}
+use Rattle.std.proofs.lemmas.Bool.{both_ways, cases_eq, cond_both}
+use Rattle.std.proofs.lemmas.Bool.Decides.{nat_tests}
+use Rattle.osal_base.specs.declared.id.ObjType.TheVariants as kind
+use Rattle.osal_base.specs.declared.limits.Limits.{Limits}
+use Rattle.osal_base.specs.declared.name.NameFault.{NameFault}
+use Rattle.osal_base.specs.Identifier.{type_number}
+use Rattle.osal_base.specs.Limits.{Fits}
+use Rattle.osal_base.specs.Name.{name_fault}
+use Rattle.osal_base.specs.Reply.{Replied}
+use Rattle.osal_idtable.specs.declared.table.ReserveFault.{ReserveFault}
+use Rattle.osal_idtable.specs.declared.table.ReserveFault.TheVariants as reserve_fault
+use Rattle.osal_idtable.specs.Table.{Active, Reserved, replaced}
+use Rattle.osal_idtable.specs.Steps.{reserve_step, unheld}
+use Rattle.osal_idtable.specs.Holds.{is_held}
+use Rattle.osal_idtable.specs.Faults.{unless}
+use Rattle.osal_idtable.specs.WellFormed.{IsWellFormed}
+use Rattle.osal_idtable.specs.Objects.{ObjectsState, with_value, created, create_step, delete_step, hold_call_step, release_call_step}
+use Rattle.osal_idtable.specs.Moves.{Move, Put, Hold, Release, Create, Remove, Changes, moved}
+use Rattle.osal_idtable.proofs.ByCalls.{tables_stay_well_formed}
+use Rattle.osal_idtable.proofs.Counted.{issued_inactive}
+use Rattle.osal_idtable.proofs.Holding.{either}
+use Rattle.osal_idtable.proofs.SameObjects.{object_of, object_at, written_here, put_elsewhere, taken_elsewhere, caller_hold_same, caller_release_same, create_keeps, created_here}
+use Rattle.osal_idtable.proofs.Shapes.{move_shape}
+use Rattle.osal_idtable.proofs.WellFormed.{no_active, stays_well_formed}
+use Rattle.osal_time.specs.Timebase.{Timebase, timer_limit, new_timebase, with_timer, sum_limit}
+use Rattle.osal_time.specs.declared.timer.Setting.{Setting}
+use Rattle.osal_time.specs.declared.timer.Timer.{Timer}
+use Rattle.osal_time.specs.Time.{TimeState, time_start, timebase_at, timer_at, in_timebases, is_timer, hold_step, release_step, advance_step}
+use Rattle.osal_time.specs.Ticks.{ticked, timebase_tick_step, delete_bare}
+use Rattle.osal_time.specs.Timers.{new_timer, attached, added_to, set_at, timer_set_step, detached, delete_timer}
+use Rattle.osal_time.specs.Attachment.{IsAttached, HasOwnTimers, AreAttached, TimersStayAttached}
+use Rattle.osal_time.proofs.Each.{Each, of_object, each_put, each_delete, each_create, each_hold, each_release}
+use Rattle.osal_time.proofs.Kept.{one_timebase, attached_at, still_attached, still_own, own_more, own_less}
+
+module _ (capacity : ℕ) (time : TimeState) (all : AreAttached capacity time) where
+  -- a step leaves timers and timebases attached
+  abbrev Keeps : Replied × TimeState → Type 0
+  Keeps stepped = AreAttached capacity stepped.1
+
+  own : Each (HasOwnTimers time) time.timebases.table.active
+  own id timebase = of_object (HasOwnTimers time id) (timebase_at time id) timebase (all.each id)
+
+  -- a move of the timers leaves them so, where each timebase has its own timers afterwards
+  after_move : (new : TimeState) (move : Move Timer (Unit {0})) → new.timers ≡ moved time.timers move → Each (HasOwnTimers new) new.timebases.table.active → AreAttached capacity new
+  after_move new move is each = record {
+    each = λ id active there. each id active.object (ap object_of there);
+    timers = subst (λ (timers : ObjectsState Timer (Unit {0})). IsWellFormed timers.table) (sym is)
+        (tables_stay_well_formed Timer (Unit {0}) time.timers move all.timers);
+    room = ap (λ (timers : ObjectsState Timer (Unit {0})). timers.table.capacity) is ∙ (move_shape time.timers move).capacity ∙ all.room;
+  }
+
+  -- the timebases change, and each has its own timers
+  timebases_keep : (timebases : ObjectsState Timebase (Unit {0})) → Each (HasOwnTimers time) timebases.table.active → AreAttached capacity (record time { timebases = timebases })
+  timebases_keep timebases each =
+      let new = record time { timebases = timebases } in
+      after_move new (Changes []) refl
+      (λ id timebase is. still_own time new id timebase (each id timebase is) (λ timer. still_attached time new id timer refl))
+
+  -- the timers change, and each stays attached
+  timers_keep : (move : Move Timer (Unit {0})) → ((timebase timer : ℕ) → IsAttached time timebase timer → IsAttached (record time { timers = moved time.timers move }) timebase timer) → AreAttached capacity (record time { timers = moved time.timers move })
+  timers_keep move still =
+      let new = record time { timers = moved time.timers move } in
+      after_move new move refl (λ id timebase is. still_own time new id timebase (own id timebase is) (still id))
+
+  timebase_create_keeps : (name : List ℕ) (fault : Option NameFault) → Keeps (unless fault time (in_timebases time (create_step time.timebases name new_timebase)))
+  timebase_create_keeps name (Some fault) = all
+  timebase_create_keeps name None =
+      timebases_keep (create_step time.timebases name new_timebase).1
+      (each_create (HasOwnTimers time) time.timebases name new_timebase own (λ id. record { few = omega arith; once = tt; own = tt }))
+
+  ticked_keeps : (id usecs : ℕ) (found : Option (Active Timebase)) → timebase_at time id ≡ found → Keeps (ticked time id usecs found)
+  ticked_keeps id usecs None is = all
+  ticked_keeps id usecs (Some active) is =
+      let was = all.each id active is in
+      either Keeps (nat_lt sum_limit (active.object.sum + usecs)) _ _ all
+      (timebases_keep (with_value time.timebases id (record active.object { sum = active.object.sum + usecs }))
+      (each_put (HasOwnTimers time) time.timebases id _ (λ other timebase ne. own other timebase) (record { few = was.few; once = was.once; own = was.own })))
+
+  tick_keeps : (id usecs : ℕ) → Keeps (timebase_tick_step time id usecs)
+  tick_keeps id usecs = either Keeps (usecs == 0) _ _ all (ticked_keeps id usecs (timebase_at time id) refl)
+
+  delete_keeps : (id : ℕ) (found : Option (Active Timebase)) → Keeps (delete_bare time id found)
+  delete_keeps id None = all
+  delete_keeps id (Some active) =
+      either Keeps (is_held (Some active)) _ _ all
+      (either Keeps (nat_lt 0 (length active.object.timers)) _ _ all
+      (timebases_keep (delete_step time.timebases id).1 (each_delete (HasOwnTimers time) time.timebases id own)))
+
+  -- another setting leaves each timer at its timebase
+  set_still : (id : ℕ) (active : Active Timer) (setting : Option Setting) → timer_at time id ≡ Some active → (timebase timer : ℕ) → IsAttached time timebase timer → IsAttached (record time { timers = with_value time.timers id (record active.object { setting = setting }) }) timebase timer
+  set_still id active setting is timebase timer was =
+      let set : Timer = record active.object { setting = setting } in
+      let new = record time { timers = with_value time.timers id set } in
+      elim (cases_eq timer id) [
+        | inl same ↦
+            attached_at new timebase timer set
+            (ap (object_at new.timers.table) same
+            ∙ ap (λ found. object_at (replaced time.timers.table id set found) id) is
+            ∙ written_here time.timers.table id (record active { object = set }))
+            (one_timebase time active.object.timebase timebase id (record { active = active; there = is; own = refl })
+            (subst (IsAttached time timebase) same was))
+        | inr ne ↦ still_attached time new timebase timer (put_elsewhere time.timers.table id set (timer_at time id) timer ne) was
+      ]
+
+  set_at_keeps : (id start interval : ℕ) (found : Option (Active Timer)) → timer_at time id ≡ found → Keeps (set_at time id start interval found)
+  set_at_keeps id start interval None is = all
+  set_at_keeps id start interval (Some active) is = timers_keep (Changes (Put id _ ∷ [])) (set_still id active _ is)
+
+  set_keeps : (id start interval : ℕ) → Keeps (timer_set_step time id start interval)
+  set_keeps id start interval =
+      either Keeps ((start == 0) && (interval == 0)) _ _ all (set_at_keeps id start interval (timer_at time id) refl)
+
+  -- a new timer is attached to a timebase that has room for it
+  attach_keeps : (name : List ℕ) (id handler : ℕ) (active : Active Timebase) → timebase_at time id ≡ Some active → length active.object.timers < timer_limit → (r : Result Reserved ReserveFault) → (reserve_step time.timers.table (Some name)).0 ≡ r → Keeps (attached time id active.object (created time.timers (new_timer id handler) r (reserve_step time.timers.table (Some name)).1))
+  attach_keeps name id handler active is room (Err reserve_fault.NameTaken) issued = all
+  attach_keeps name id handler active is room (Err reserve_fault.NoFreeIds) issued = all
+  attach_keeps name id handler active is room (Ok reserved) issued =
+      let timer = new_timer id handler in
+      let table = (reserve_step time.timers.table (Some name)).1 in
+      let new = record time {
+        timebases = with_value time.timebases id (with_timer active.object reserved.id);
+        timers = (created time.timers timer (Ok reserved) table).1;
+      } in
+      let still : (timebase other : ℕ) → IsAttached time timebase other → IsAttached new timebase other =
+      λ timebase other was. still_attached time new timebase other (create_keeps time.timers name timer (Ok reserved) issued other (ap is_some was.there)) was in
+      let fresh : (other : ℕ) → IsAttached time id other → reserved.id ≡ other → ⊥ =
+      λ other was same. both_ways (is_some (timer_at time reserved.id)) (issued_inactive time.timers.table (Some name) reserved issued) (ap (λ k. is_some (timer_at time k)) same ∙ ap is_some was.there) in
+      after_move new (Create name timer) (sym (ap (λ r. (created time.timers timer r table).1) issued))
+      (each_put (HasOwnTimers new) time.timebases id (with_timer active.object reserved.id)
+      (λ other timebase ne there. still_own time new other timebase (own other timebase there) (still other))
+      (own_more time new id active.object (all.each id active is) reserved.id room fresh (still id)
+      (attached_at new id reserved.id timer (created_here time.timers name timer reserved issued) refl)))
+
+  added_keeps : (name : List ℕ) (id handler : ℕ) (found : Option (Active Timebase)) → timebase_at time id ≡ found → Keeps (added_to time name id handler found)
+  added_keeps name id handler None is = all
+  added_keeps name id handler (Some active) is =
+      cond_both (nat_lt (length active.object.timers) timer_limit) _ _ Keeps
+      (λ room. attach_keeps name id handler active is (grind (arith, nat_tests)) (reserve_step time.timers.table (Some name)).0 refl)
+      (λ full. all)
+
+  add_keeps : (name : List ℕ) (id handler : ℕ) (fault : Option NameFault) → Keeps (unless fault time (added_to time name id handler (timebase_at time id)))
+  add_keeps name id handler (Some fault) = all
+  add_keeps name id handler None = added_keeps name id handler (timebase_at time id) refl
+
+  module _ (id : ℕ) (active : Active Timer) (is : timer_at time id ≡ Some active) where
+    -- a timer is removed, and these are the timebases then
+    abbrev without : ObjectsState Timebase (Unit {0}) → TimeState
+    without timebases = record time { timebases = timebases; timers = (delete_step time.timers id).1 }
+
+    others_still : (timebases : ObjectsState Timebase (Unit {0})) (timebase other : ℕ) → (other ≡ id → ⊥) → IsAttached time timebase other → IsAttached (without timebases) timebase other
+    others_still timebases timebase other ne =
+        still_attached time (without timebases) timebase other (taken_elsewhere time.timers.table id (unheld (timer_at time id)) other ne)
+
+    -- a timebase that the timer is not attached to has its own timers still
+    elsewhere : (timebases : ObjectsState Timebase (Unit {0})) (other : ℕ) (timebase : Timebase) → (other ≡ active.object.timebase → ⊥) → HasOwnTimers time other timebase → HasOwnTimers (without timebases) other timebase
+    elsewhere timebases other timebase ne was =
+        still_own time (without timebases) other timebase was
+        (λ timer one. others_still timebases other timer
+        (λ same. ne (one_timebase time other active.object.timebase timer one (record { active = active; there = ap (timer_at time) same ∙ is; own = refl })))
+        one)
+
+    removed_keeps : (found : Option (Active Timebase)) → timebase_at time active.object.timebase ≡ found → AreAttached capacity (without (detached time.timebases active.object.timebase id found))
+    removed_keeps None at =
+        after_move (without time.timebases) (Remove id) refl
+        (λ other timebase there. elsewhere time.timebases other timebase
+        (λ same. let none : None ≡ Some timebase = sym (ap (object_at time.timebases.table) same ∙ ap object_of at) ∙ there in cc)
+        (own other timebase there))
+    removed_keeps (Some found) at =
+        let timebases = detached time.timebases active.object.timebase id (Some found) in
+        after_move (without timebases) (Remove id) refl
+        (each_put (HasOwnTimers (without timebases)) time.timebases active.object.timebase _
+        (λ other timebase ne there. elsewhere timebases other timebase ne (own other timebase there))
+        (own_less time (without timebases) active.object.timebase found.object (all.each active.object.timebase found at) id
+        (others_still timebases active.object.timebase)))
+
+  remove_keeps : (id : ℕ) (found : Option (Active Timer)) → timer_at time id ≡ found → Keeps (delete_timer time id found)
+  remove_keeps id None is = all
+  remove_keeps id (Some active) is =
+      either Keeps (is_held (Some active)) _ _ all
+      (removed_keeps id active is (timebase_at time active.object.timebase) refl)
+
+  hold_keeps : (id : ℕ) → Keeps (hold_step time id)
+  hold_keeps id =
+      either Keeps (is_timer id) _ _
+      (timers_keep (Changes (Hold id ∷ [])) (λ timebase timer. still_attached time _ timebase timer (caller_hold_same time.timers id (timer_at time id) refl timer)))
+      (timebases_keep (hold_call_step time.timebases id).1
+      (each_hold (HasOwnTimers time) time.timebases id own))
+
+  release_keeps : (id : ℕ) → Keeps (release_step time id)
+  release_keeps id =
+      either Keeps (is_timer id) _ _
+      (timers_keep (Changes (Release id ∷ [])) (λ timebase timer. still_attached time _ timebase timer (caller_release_same time.timers id (timer_at time id) refl timer)))
+      (timebases_keep (release_call_step time.timebases id).1
+      (each_release (HasOwnTimers time) time.timebases id own))
+
+  advance_keeps : (to : ℕ) → Keeps (advance_step time to)
+  advance_keeps to =
+      let new = record time { moment = record { ms = to } } in
+      either Keeps (nat_lt time.moment.ms to) _ _
+      (after_move new (Changes []) refl
+      (λ id timebase is. still_own time new id timebase (own id timebase is) (λ timer. still_attached time new id timer refl)))
+      all
+
+-- nothing is there at the start
+start_attached : (limits : Limits) → Fits limits → AreAttached limits.timers (time_start limits)
+start_attached limits fits = record {
+  each = λ id active is. absurd (no_active Timebase (type_number kind.Timebase) limits.timebases id active is);
+  timers = (stays_well_formed Timer).0 (type_number kind.Timer) limits.timers fits.timers;
+  room = refl;
+}
+
+-- timers stay attached to their timebases
+pub timers_stay_attached : (limits : Limits) → TimersStayAttached limits
+timers_stay_attached limits = record {
+  start = start_attached limits;
+  create = λ time name all. timebase_create_keeps limits.timers time all name (name_fault name);
+  tick = λ time id usecs all. tick_keeps limits.timers time all id usecs;
+  delete = λ time id all. delete_keeps limits.timers time all id (timebase_at time id);
+  add = λ time name timebase handler all. add_keeps limits.timers time all name timebase handler (name_fault name);
+  set = λ time id start interval all. set_keeps limits.timers time all id start interval;
+  remove = λ time id all. remove_keeps limits.timers time all id (timer_at time id) refl;
+  hold = λ time id all. hold_keeps limits.timers time all id;
+  release = λ time id all. release_keeps limits.timers time all id;
+  advance = λ time to all. advance_keeps limits.timers time all to;
+}

@@ -1,0 +1,5 @@
+pub mod Counting
+pub mod Each
+pub mod Kept
+pub mod Attached
+pub mod FewFire

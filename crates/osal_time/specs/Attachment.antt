@@ -1,0 +1,56 @@
+-- What holds of the timers and timebases of every history of the time part.
+use Rattle.std.specs.Prelude.{◌≡◌, ◌≤◌, ◌==◌, ℕ, false, List, [], ◌∷◌, length, Some, min}
+use Rattle.std.specs.List.{AllByRecursion, list_any}
+use Rattle.osal_base.specs.declared.limits.Limits.{Limits}
+use Rattle.osal_base.specs.Limits.{Fits}
+use Rattle.osal_idtable.specs.Table.{Active}
+use Rattle.osal_idtable.specs.WellFormed.{IsWellFormed}
+use Rattle.osal_time.specs.Timebase.{Timebase, timer_limit}
+use Rattle.osal_time.specs.declared.timer.Timer.{Timer}
+use Rattle.osal_time.specs.Time.{TimeState, time_start, timebase_at, timer_at, hold_step, release_step, advance_step}
+use Rattle.osal_time.specs.Ticks.{firings, timebase_create_step, timebase_tick_step, timebase_delete_step}
+use Rattle.osal_time.specs.Timers.{timer_add_step, timer_set_step, timer_delete_step}
+
+-- a timer is active and one of a timebase's
+pub record IsAttached (time : TimeState) (timebase timer : ℕ) : Type 0 where
+  pub active : Active Timer
+  pub there : timer_at time timer ≡ Some active
+  pub own : active.object.timebase ≡ timebase
+
+-- no timer stands twice in a list
+abbrev pub AreOnce : List ℕ → Type 0
+AreOnce [] = Unit {0}
+AreOnce (timer ∷ timers) = (list_any (λ other. other == timer) timers ≡ false) × AreOnce timers
+
+-- a timebase has active timers of its own, each once, and not too many
+pub record HasOwnTimers (time : TimeState) (id : ℕ) (timebase : Timebase) : Type 0 where
+  pub few : length timebase.timers ≤ timer_limit
+  pub once : AreOnce timebase.timers
+  pub own : AllByRecursion (IsAttached time id) timebase.timers
+
+-- each timebase has its own timers, and the timers stand in a well-formed table of a capacity
+pub record AreAttached (capacity : ℕ) (time : TimeState) : Type 0 where
+  pub each : (id : ℕ) (active : Active Timebase) → timebase_at time id ≡ Some active → HasOwnTimers time id active.object
+  pub timers : IsWellFormed time.timers.table
+  pub room : time.timers.table.capacity ≡ capacity
+
+-- this holds at the start, and each call keeps it
+pub record TimersStayAttached (limits : Limits) : Type 0 where
+  pub start : Fits limits → AreAttached limits.timers (time_start limits)
+  pub create : (time : TimeState) (name : List ℕ) → AreAttached limits.timers time → AreAttached limits.timers (timebase_create_step time name).1
+  pub tick : (time : TimeState) (id usecs : ℕ) → AreAttached limits.timers time → AreAttached limits.timers (timebase_tick_step time id usecs).1
+  pub delete : (time : TimeState) (id : ℕ) → AreAttached limits.timers time → AreAttached limits.timers (timebase_delete_step time id).1
+  pub add : (time : TimeState) (name : List ℕ) (timebase handler : ℕ) → AreAttached limits.timers time → AreAttached limits.timers (timer_add_step time name timebase handler).1
+  pub set : (time : TimeState) (id start interval : ℕ) → AreAttached limits.timers time → AreAttached limits.timers (timer_set_step time id start interval).1
+  pub remove : (time : TimeState) (id : ℕ) → AreAttached limits.timers time → AreAttached limits.timers (timer_delete_step time id).1
+  pub hold : (time : TimeState) (id : ℕ) → AreAttached limits.timers time → AreAttached limits.timers (hold_step time id).1
+  pub release : (time : TimeState) (id : ℕ) → AreAttached limits.timers time → AreAttached limits.timers (release_step time id).1
+  pub advance : (time : TimeState) (to : ℕ) → AreAttached limits.timers time → AreAttached limits.timers (advance_step time to).1
+
+-- no more timers fire in a tick than one timebase may have, nor than there may be
+abbrev pub FewFire : Type 0
+FewFire =
+    (time : TimeState) (capacity id : ℕ) (active : Active Timebase) (from to : ℕ)
+    → AreAttached capacity time
+    → timebase_at time id ≡ Some active
+    → length (firings time.timers.table from to active.object.timers) ≤ min timer_limit capacity

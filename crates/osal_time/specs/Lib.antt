@@ -1,0 +1,10 @@
+pub use Rattle.osal_idtable.specs.Table
+pub use Rattle.osal_idtable.specs.Steps
+pub use Rattle.osal_idtable.specs.Objects
+pub use Rattle.osal_idtable.specs.Waits
+pub mod Expiry
+pub mod Timebase
+pub mod Time
+pub mod Ticks
+pub mod Timers
+pub mod Attachment

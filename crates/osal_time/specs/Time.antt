@@ -1,0 +1,69 @@
+-- The time part: the timebases, the timers, and the moment that it is.
+use Rattle.std.specs.Prelude.{ℕ, Bool, ◌==◌, Option, is_some, nat_lt, if◌then◌else◌}
+use Rattle.osal_base.specs.declared.status.Status.TheVariants as status
+use Rattle.osal_base.specs.declared.id.ObjType.TheVariants as kind
+use Rattle.osal_base.specs.declared.limits.Limits.{Limits}
+use Rattle.osal_base.specs.declared.time.Moment.{Moment}
+use Rattle.osal_base.specs.Identifier.{type_number, type_of}
+use Rattle.osal_base.specs.Reply.{Replied, refusal, success}
+use Rattle.osal_idtable.specs.Table.{Active, active_at}
+use Rattle.osal_idtable.specs.Objects.{ObjectsState, no_objects, hold_call_step, release_call_step}
+use Rattle.osal_time.specs.Timebase.{Timebase}
+use Rattle.osal_time.specs.declared.timer.Timer.{Timer}
+
+-- the time part: no call of it waits
+pub record TimeState : Type 0 where
+  pub timebases : ObjectsState Timebase (Unit {0})
+  pub timers : ObjectsState Timer (Unit {0})
+  pub moment : Moment
+
+-- no timebases and no timers, at the start of time
+abbrev pub time_start : Limits → TimeState
+time_start limits = record {
+  timebases = no_objects (type_number kind.Timebase) limits.timebases limits.tasks;
+  timers = no_objects (type_number kind.Timer) limits.timers limits.tasks;
+  moment = record { ms = 0 };
+}
+
+-- a step of the timebases is a step of the part
+abbrev pub in_timebases : TimeState → Replied × ObjectsState Timebase (Unit {0}) → Replied × TimeState
+in_timebases time stepped = (stepped.0, record time { timebases = stepped.1 })
+
+-- a step of the timers is a step of the part
+abbrev pub in_timers : TimeState → Replied × ObjectsState Timer (Unit {0}) → Replied × TimeState
+in_timers time stepped = (stepped.0, record time { timers = stepped.1 })
+
+-- the timebase under an identifier, if it is active
+abbrev pub timebase_at : TimeState → ℕ → Option (Active Timebase)
+timebase_at time id = active_at time.timebases.table id
+
+-- the timer under an identifier, if it is active
+abbrev pub timer_at : TimeState → ℕ → Option (Active Timer)
+timer_at time id = active_at time.timers.table id
+
+-- whether an identifier is one of a timer
+abbrev pub is_timer : ℕ → Bool
+is_timer id = type_of id == type_number kind.Timer
+
+-- whether an identifier is active, as a timer or else as a timebase
+abbrev pub is_active : TimeState → ℕ → Bool
+is_active time id = if is_timer id then is_some (timer_at time id) else is_some (timebase_at time id)
+
+-- a hold of a timer or a timebase
+abbrev pub hold_step : TimeState → ℕ → Replied × TimeState
+hold_step time id =
+    if is_timer id then in_timers time (hold_call_step time.timers id)
+    else in_timebases time (hold_call_step time.timebases id)
+
+-- the end of a hold of a timer or a timebase
+abbrev pub release_step : TimeState → ℕ → Replied × TimeState
+release_step time id =
+    if is_timer id then in_timers time (release_call_step time.timers id)
+    else in_timebases time (release_call_step time.timebases id)
+
+-- time goes on to a later moment; a moment that is not later is refused
+abbrev pub advance_step : TimeState → ℕ → Replied × TimeState
+advance_step time to =
+    if nat_lt time.moment.ms to
+    then (success, record time { moment = record { ms = to } })
+    else (refusal status.Error, time)

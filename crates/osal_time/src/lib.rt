@@ -1,0 +1,15 @@
+//! Timebases, timers, and the moment that it is: the calls of OSAL's `osapi-timebase.h` and `osapi-timer.h`.
+#![tactic(auto)]
+
+pub mod laws;
+mod part;
+#[cfg(test)]
+mod tests;
+mod ticks;
+mod timebase;
+mod timer;
+mod timers;
+
+pub use part::TimePart;
+pub use timebase::Timebase;
+pub use timer::{Setting, Timer};

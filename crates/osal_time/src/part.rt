@@ -1,0 +1,145 @@
+//! The time part.
+ghost use Rattle.std.specs.Prelude.{◌≡◌, IsOk, IfOk, is_some};
+ghost use Rattle.osal_base.specs.Limits.{Fits};
+ghost use Rattle.osal_base.specs.Reply.{replied};
+ghost use Rattle.osal_time.specs.Time.{time_start, is_timer, is_active, hold_step, release_step, advance_step};
+
+use crate::{Timebase, Timer};
+use osal_base::{Ack, Limits, Moment, ObjType, OsalId, OutOfMemory, Room, Status};
+use osal_idtable::Objects;
+use std::alloc::Global;
+use std::marker::Model;
+
+/// The timebases, the timers, and the moment that it is: virtual time goes on where somebody advances it.
+///
+/// No call of this part waits, none but `open` takes memory, and one that is refused changes nothing. A timebase runs
+/// by its own ticks, whatever the moment is.
+#[derive(Drop)]
+pub struct TimePart {
+    pub(crate) timebases: Objects<Timebase, ()>,
+    pub(crate) timers: Objects<Timer, ()>,
+    moment: Moment,
+}
+
+impl Model for TimePart {
+    ghost use Rattle.osal_time.specs.Time.{TimeState};
+    ghost use Rattle.std.specs.Coded.{codes};
+    ghost use Rattle.osal_idtable.specs.Code.{objects_code};
+
+    ghost Value = { TimeState };
+
+    ghost coded = { Prim.hlevel (codes, objects_code) };
+
+    ghost view = { λ a. record { timebases = a.timebases; timers = a.timers; moment = a.moment } };
+
+    ghost invariant = { λ a. Unit {0} };
+}
+
+// Whether an identifier is one of a timer.
+fn is_timer(id: OsalId) -> bool
+    ensures { result ≡ is_timer id }
+{
+    id.raw() / 65536 == ObjType::Timer.number()
+}
+
+impl TimePart {
+    /// No timebases and no timers at the start of time, with the memory for as many as the limits say.
+    ///
+    /// It fails for want of memory alone, and costs the two capacities.
+    pub fn open(alloc: Global, limits: &Limits) -> Result<TimePart, OutOfMemory>
+        requires { Fits limits.now }
+        ensures { IfOk result (λ part. part ≡ time_start limits.now) }
+    {
+        Ok(TimePart {
+            timebases: Objects::new(alloc, ObjType::Timebase, limits.timebases, limits.tasks)?,
+            timers: Objects::new(alloc, ObjType::Timer, limits.timers, limits.tasks)?,
+            moment: Moment::START,
+        })
+    }
+
+    /// The moment that it is, in milliseconds since the start.
+    pub fn moment(&self) -> Moment
+        ensures { result ≡ self.now.moment }
+    {
+        self.moment
+    }
+
+    /// Goes on to a later moment, in milliseconds since the start. In OSAL time goes on by itself.
+    ///
+    /// Refused is a moment that is not later (`OS_ERROR`). The cost is constant.
+    pub fn advance(
+        &mut self,
+        _alloc: Global,
+        _task: OsalId,
+        _now: Moment,
+        to: u64,
+        room: &mut Room,
+    ) -> Result<Ack, OutOfMemory>
+        ensures step { IfOk result (λ ack. (replied ack room.new, self.new) ≡ advance_step self.old to) }
+        ensures memory { IsOk result }
+    {
+        room.clear();
+        if to <= self.moment.ms {
+            return Ok(Ack::refused(Status::Error));
+        }
+        self.moment = Moment { ms: to };
+        Ok(Ack::success())
+    }
+
+    /// `OS_ObjectIdGetById` with a reference count: holds a timer or a timebase, so that it is not removed.
+    ///
+    /// Refused are, in this order, an identifier that is not active (`OS_ERR_INVALID_ID`), and an object with 1,000,000
+    /// holds or more (`OS_ERROR`). The cost is constant.
+    pub fn hold(
+        &mut self,
+        _alloc: Global,
+        _task: OsalId,
+        _now: Moment,
+        id: OsalId,
+        room: &mut Room,
+    ) -> Result<Ack, OutOfMemory>
+        ensures step { IfOk result (λ ack. (replied ack room.new, self.new) ≡ hold_step self.old id) }
+        ensures memory { IsOk result }
+    {
+        room.clear();
+        if is_timer(id) {
+            Ok(self.timers.hold(id))
+        } else {
+            Ok(self.timebases.hold(id))
+        }
+    }
+
+    /// `OS_ObjectIdRelease`: gives a hold of a timer or a timebase back.
+    ///
+    /// Refused are, in this order, an identifier that is not active (`OS_ERR_INVALID_ID`), and an object that nobody
+    /// holds (`OS_ERR_INCORRECT_OBJ_STATE`). The cost is constant.
+    pub fn release(
+        &mut self,
+        _alloc: Global,
+        _task: OsalId,
+        _now: Moment,
+        id: OsalId,
+        room: &mut Room,
+    ) -> Result<Ack, OutOfMemory>
+        ensures step { IfOk result (λ ack. (replied ack room.new, self.new) ≡ release_step self.old id) }
+        ensures memory { IsOk result }
+    {
+        room.clear();
+        if is_timer(id) {
+            Ok(self.timers.release(id))
+        } else {
+            Ok(self.timebases.release(id))
+        }
+    }
+
+    /// Whether an identifier is one of an active timer or timebase. The cost is constant.
+    pub fn active(&self, id: OsalId) -> bool
+        ensures { result ≡ is_active self.now id }
+    {
+        if is_timer(id) {
+            self.timers.is_active(id)
+        } else {
+            self.timebases.is_active(id)
+        }
+    }
+}
