@@ -44,7 +44,7 @@ pub record Drive : Type 0 where
 abbrev pub drive_of : Entries → MachineState → List (Option Running) → Drive
 drive_of journal state runners = record { journal = journal; state = state; runners = runners }
 
--- the journal so far is a front of a run with room for the rest, and the machine and the runners are where it leads
+-- the journal so far is a part run with room for the rest, and the machine and the runners are where it leads
 pub record IsDriven (app : Application) (drive : Drive) : Type 0 where
   pub later : NamesLater app
   pub bare : HandlersAreBare app

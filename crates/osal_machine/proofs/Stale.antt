@@ -182,9 +182,9 @@ stale_step state task now (call.CondvarDelete other) id same none may =
 stale_step state task now (call.TimebaseTick other usecs) id same none may =
     stale_tick state.time other usecs may (nothing_at state.time.timebases.table other id same none)
 stale_step state task now (call.TimebaseFreeRun other) id same none may =
-    ap of_timebases.run_of (nothing_at state.time.timebases.table other id same none)
+    ap of_timebases.free_run_of (nothing_at state.time.timebases.table other id same none)
 stale_step state task now (call.TimebaseDelete other) id same none may =
-    ap (λ o. (of_timebases.delete_bare state.time other o).0) (nothing_at state.time.timebases.table other id same none)
+    ap (λ o. (of_timebases.delete_unattached state.time other o).0) (nothing_at state.time.timebases.table other id same none)
 stale_step state task now (call.TimerAdd name timebase handler) id same none may =
     stale_add state.time name.bytes timebase handler may (nothing_at state.time.timebases.table timebase id same none)
 stale_step state task now (call.TimerSet other start interval) id same none may =

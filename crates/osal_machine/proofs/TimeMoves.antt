@@ -43,7 +43,7 @@ module _ (time : TimeState) where
   tick_moves id usecs =
       either Moves (usecs == 0) _ _ both_stay (ticked_moves id usecs (timebase_at time id))
 
-  removal_moves : (id : ℕ) (found : Option (Active Timebase)) → Moves (of_timebases.delete_bare time id found)
+  removal_moves : (id : ℕ) (found : Option (Active Timebase)) → Moves (of_timebases.delete_unattached time id found)
   removal_moves id None = both_stay
   removal_moves id (Some active) =
       either Moves (is_held (Some active)) _ _ both_stay

@@ -10,7 +10,7 @@ use Rattle.osal_idtable.specs.Objects.{ObjectsState, create_step}
 use Rattle.osal_time.specs.Timebase.{Timebase, sum_limit, timer_limit, new_timebase}
 use Rattle.osal_time.specs.declared.timer.Timer.{Timer}
 use Rattle.osal_time.specs.Time.{TimeState, in_timebases, in_timers, timebase_at, timer_at, is_timer}
-use Rattle.osal_time.specs.Ticks.{ticked, delete_bare}
+use Rattle.osal_time.specs.Ticks.{ticked, delete_unattached}
 use Rattle.osal_time.specs.Timers.{new_timer, attached, added_to, set_at, delete_timer}
 use Rattle.osal_machine.specs.declared.call.Call.{Call}
 use Rattle.osal_machine.specs.declared.call.Call.TheVariants as call
@@ -42,7 +42,7 @@ module _ (time : TimeState) where
   ticked_keeps id usecs (Some active) =
       either Keeps (nat_lt sum_limit (active.object.sum + usecs)) _ _ same (fails refl)
 
-  bare_keeps : (id : ℕ) (o : Option (Active Timebase)) → Keeps (delete_bare time id o)
+  bare_keeps : (id : ℕ) (o : Option (Active Timebase)) → Keeps (delete_unattached time id o)
   bare_keeps id None = same
   bare_keeps id (Some active) =
       either Keeps (is_held (Some active)) _ _ same

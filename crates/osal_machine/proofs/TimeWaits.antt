@@ -50,11 +50,11 @@ module _ (time : TimeState) where
   ticked_answers id usecs (Some active) =
       either Answers (nat_lt sum_limit (active.object.sum + usecs)) _ _ refl refl
 
-  run_answers : (found : Option (Active Timebase)) → is_waits (of_timebases.run_of found).answer ≡ false
+  run_answers : (found : Option (Active Timebase)) → is_waits (of_timebases.free_run_of found).answer ≡ false
   run_answers None = refl
   run_answers (Some active) = refl
 
-  removal_answers : (id : ℕ) (found : Option (Active Timebase)) → Answers (of_timebases.delete_bare time id found)
+  removal_answers : (id : ℕ) (found : Option (Active Timebase)) → Answers (of_timebases.delete_unattached time id found)
   removal_answers id None = refl
   removal_answers id (Some active) =
       either Answers (is_held (Some active)) _ _ refl

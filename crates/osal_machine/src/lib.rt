@@ -14,6 +14,5 @@ mod whole;
 pub use any::AnyPart;
 pub use call::{Call, Entry, part_of};
 pub use journal::Journal;
-pub use osal_time::TimePart;
 pub use part::Part;
 pub use whole::Whole;

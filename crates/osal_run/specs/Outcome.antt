@@ -46,7 +46,7 @@ IsRefused (Refused refusal) entries before after = (entries ≡ []) × (after �
 abbrev pub IsUntouched : List Entry → List ℕ → List ℕ → Type 0
 IsUntouched entries before after = (entries ≡ []) × (after ≡ before)
 
--- a run that was cut short: the journal is a front of a run, and a prefix of the text is written
+-- a run that was cut short: the journal is a part run, and a prefix of the text is written
 abbrev pub IsCutShort : Check → List Entry → List ℕ → List ℕ → Type 0
 IsCutShort (Accepted app) entries before after =
     IsPartRun app entries × AppendsPrefix (report_text app entries) before after

@@ -1,4 +1,4 @@
--- A front of a run has no more entries than its application costs.
+-- A part run has no more entries than its application costs.
 use Rattle.std.proofs.Common.{◌≡◌, ◌≤◌, ◌==◌, ◌+◌, ℕ, List, [], ◌∷◌, length, nat_lt, Some, slice_index, inl, inr, refl, sym, ap, subst, ◌∙◌, arith}
 use Rattle.std.proofs.Math.Path.{subst₂}
 use Rattle.std.specs.List.{AllByRecursion}
@@ -105,7 +105,7 @@ module _ (app : Application) (names : NamesLater app) (bare : HandlersAreBare ap
       let rest = bounded_from (after_entry (opening version1) first) (recorded app [] first) entries (linked_first app first legal.0 begins.0) (named_recorded app names [] first tt) begins.1 legal.1 timely.1 scripts ends in
       omega (arith, first_potential first begins.0)
 
--- a front of a run has no more entries than its application costs
+-- a part run has no more entries than its application costs
 pub cost_bounds_entries : CostBounds
 cost_bounds_entries app entries names bare part =
     bounded_all app names bare entries part.follows.begins part.legal part.timely part.follows.scripts part.follows.ended

@@ -150,7 +150,7 @@ follows_push app entries entry follows goes = record {
   ended = subst EndsBefore (sym (segments_push app entries entry)) goes.ended;
 }
 
--- a front of a run is one with one more entry
+-- a part run is one with one more entry
 pub part_push : (app : Application) (entries : List Entry) (entry : Entry) → IsPartRun app entries → GoesOn app entries entry → reply_of entry.reply ≡ (step (replay version1 entries) entry.task entry.now entry.call).0 → IsTimelyCall (replay version1 entries) (segments_of app entries) entry.call → IsPartRun app (entries ++ entry ∷ [])
 part_push app entries entry part goes replied timely = record {
   legal = legal_push (opening version1) entries entry part.legal replied;

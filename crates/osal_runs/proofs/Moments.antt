@@ -11,7 +11,7 @@ use Rattle.osal_idtable.specs.Objects.{ObjectsState, create_step}
 use Rattle.osal_time.specs.Timebase.{Timebase, sum_limit, timer_limit}
 use Rattle.osal_time.specs.declared.timer.Timer.{Timer}
 use Rattle.osal_time.specs.Time.{TimeState, timebase_at, timer_at, is_timer}
-use Rattle.osal_time.specs.Ticks.{ticked, delete_bare}
+use Rattle.osal_time.specs.Ticks.{ticked, delete_unattached}
 use Rattle.osal_time.specs.Timers.{new_timer, attached, added_to, set_at, delete_timer}
 use Rattle.osal_machine.specs.Parts.{time_step}
 use Rattle.osal_machine.specs.declared.call.Call.{Call}
@@ -32,7 +32,7 @@ module _ (time : TimeState) where
   ticked_stays id usecs None = refl
   ticked_stays id usecs (Some active) = either Stays (nat_lt sum_limit (active.object.sum + usecs)) _ _ refl refl
 
-  removal_stays : (id : ℕ) (found : Option (Active Timebase)) → Stays (delete_bare time id found)
+  removal_stays : (id : ℕ) (found : Option (Active Timebase)) → Stays (delete_unattached time id found)
   removal_stays id None = refl
   removal_stays id (Some active) =
       either Stays (is_held (Some active)) _ _ refl (either Stays (nat_lt 0 (length active.object.timers)) _ _ refl refl)

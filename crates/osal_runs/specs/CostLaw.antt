@@ -5,7 +5,7 @@ use Rattle.osal_script.specs.App.{Application, NamesLater, HandlersAreBare}
 use Rattle.osal_script.specs.Cost.{cost_of}
 use Rattle.osal_runs.specs.Runs.{IsPartRun}
 
--- a front of a run has no more entries than its application costs
+-- a part run has no more entries than its application costs
 abbrev pub CostBounds : Type 0
 CostBounds =
     (app : Application) (entries : List Entry)

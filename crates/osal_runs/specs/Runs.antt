@@ -106,7 +106,7 @@ AreTimely app state segments (entry ∷ entries) =
 abbrev pub IsTimely : Application → List Entry → Type 0
 IsTimely app entries = AreTimely app (opening version1) [] entries
 
--- a front of a run: a legal history that follows the application and is timely
+-- a part run: a legal history that follows the application and is timely
 pub record IsPartRun (app : Application) (entries : List Entry) : Type 0 where
   pub legal : IsLegal version1 entries
   pub follows : Follows app entries

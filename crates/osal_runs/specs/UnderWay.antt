@@ -14,7 +14,7 @@ abbrev pub moment_after : Moment → List Entry → Moment
 moment_after now [] = now
 moment_after now (entry ∷ entries) = moment_after (moment_by now entry.call) entries
 
--- a front of a run with at least one entry: its machine and its segments belong together, and the machine's moment
+-- a part run with at least one entry: its machine and its segments belong together, and the machine's moment
 -- is the one to which its entries made time go on
 pub record IsUnderWay (app : Application) (entries : List Entry) : Type 0 where
   pub begun : 0 < length entries

@@ -10,7 +10,7 @@ pub fn open_waits_are_scripts()
     ensures { OpenWaitsAreScripts }
 {}
 
-/// A run has no more entries than its application costs.
+/// A part run has no more entries than its application costs.
 pub fn cost_bounds_entries()
     ensures { CostBounds }
 {}

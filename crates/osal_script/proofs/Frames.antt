@@ -1,5 +1,5 @@
 -- The registers that the next line uses, and the call that it makes with them.
-use Rattle.std.proofs.Common.{◌≡◌, ◌++◌, ◌∙◌, ℕ, Bool, true, false, List, [], ◌∷◌, Some, None, map, refl, ap}
+use Rattle.std.proofs.Common.{◌≡◌, ◌++◌, ◌∙◌, ℕ, Bool, true, false, List, [], ◌∷◌, None, map, refl, ap}
 use Rattle.osal_script.specs.declared.app.Line.{Line}
 use Rattle.osal_script.specs.Calls.{call_made}
 use Rattle.osal_script.specs.Script.{Pending, Frames, in_body, line_call, put_in}

@@ -1,4 +1,4 @@
--- What an application may cost: the most entries that a run of it has.
+-- What an application costs: a bound on the entries of its runs.
 use Rattle.std.specs.Prelude.{◌+◌, ◌*◌, ◌/◌, ◌-◌, ◌==◌, List, [], ◌∷◌, ℕ, length, max, min, slice_index, if◌then◌else◌}
 use Rattle.osal_base.specs.Limits.{version1}
 use Rattle.osal_base.specs.declared.time.Timeout.{Timeout}

@@ -149,6 +149,6 @@ pub enum Item {
 pub enum BodyKind {
     /// A task.
     Task,
-    /// A timer that fires.
+    /// A timer, each time that it fires in a tick.
     Handler,
 }

@@ -1,4 +1,4 @@
-//! What an application may cost: the most entries that a run of it has.
+//! What an application costs: a bound on the entries of its runs.
 ghost use Rattle.std.specs.Prelude.{◌≡◌, ◌<◌, ◌-◌, ◌^◌, [], ◌∷◌, length, min, replicate, slice_index};
 ghost use Rattle.osal_script.specs.Cost as cost;
 ghost use Rattle.osal_script.specs.Cost.{cost_of, first_cost, greatest_handler, level_costs};
@@ -111,7 +111,7 @@ impl Prices {
 }
 
 impl App {
-    /// The most entries that a run of the application has, or the greatest number where there may be more.
+    /// A bound on the entries of a run of the application, or the greatest number where the bound is above it.
     pub fn cost(&self) -> u64
         ensures { result ≡ min (cost_of self.now) (2 ^ 64 - 1) }
     {

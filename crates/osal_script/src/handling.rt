@@ -23,12 +23,12 @@ const GROUP: usize = 12;
 
 /// The numbers of the bodies that a tick's bytes name and that have not had their turn, the next one on top.
 #[derive(Drop)]
-struct Waiting {
+struct HandlerNumbers {
     count: usize,
     numbers: [u32; 64],
 }
 
-impl Model for Waiting {
+impl Model for HandlerNumbers {
     ghost use Rattle.std.specs.Prelude.{◌≡◌, ◌≤◌, List, ℕ, length, take, reverse};
 
     ghost Value = { List ℕ };
@@ -38,12 +38,12 @@ impl Model for Waiting {
     ghost invariant = { λ a. (a.count ≤ 64) × (length a.numbers ≡ 64) };
 }
 
-impl Waiting {
+impl HandlerNumbers {
     /// Nothing waits.
-    fn none() -> Waiting
+    fn none() -> HandlerNumbers
         ensures { result ≡ [] }
     {
-        Waiting {
+        HandlerNumbers {
             count: 0,
             numbers: [0; 64],
         }
@@ -81,7 +81,7 @@ pub(crate) struct Handling<'a> {
     begun: bool,
     /// The registers of the handler that runs or has run.
     registers: [u32; 32],
-    waiting: Waiting,
+    waiting: HandlerNumbers,
 }
 
 impl<'a> Model for Handling<'a> {
@@ -111,7 +111,7 @@ impl<'a> Handling<'a> {
             walk: Walk::new(&[]),
             begun: false,
             registers: [0; 32],
-            waiting: Waiting::none(),
+            waiting: HandlerNumbers::none(),
         }
     }
 
@@ -168,7 +168,7 @@ impl<'a> Handling<'a> {
 }
 
 /// The walk of the next handler that has a line, or of none.
-fn next_walk<'a>(app: &'a App, waiting: &mut Waiting) -> Walk<'a>
+fn next_walk<'a>(app: &'a App, waiting: &mut HandlerNumbers) -> Walk<'a>
     ensures lines { script.of_handler result ++ put_in app.now.bodies waiting.new ≡ put_in app.now.bodies waiting.old }
     ensures last { result ≡ [] → waiting.new ≡ [] }
 {
@@ -198,10 +198,10 @@ fn handler_walk<'a>(app: &'a App, number: u32) -> Walk<'a>
 }
 
 /// The numbers of the handlers that a tick's bytes name.
-fn handlers_in(bytes: &[u8]) -> Waiting
+fn handlers_in(bytes: &[u8]) -> HandlerNumbers
     ensures { result ≡ handler_numbers timer_limit bytes.now }
 {
-    let mut waiting = Waiting::none();
+    let mut waiting = HandlerNumbers::none();
     let mut at = (bytes.len() / GROUP).min(TIMER_LIMIT as usize);
     while 0 < at {
         at -= 1;

@@ -28,7 +28,7 @@ use Rattle.osal_time.specs.Timebase.{Timebase, timer_limit, new_timebase, with_t
 use Rattle.osal_time.specs.declared.timer.Setting.{Setting}
 use Rattle.osal_time.specs.declared.timer.Timer.{Timer}
 use Rattle.osal_time.specs.Time.{TimeState, time_start, timebase_at, timer_at, in_timebases, is_timer, hold_step, release_step, advance_step}
-use Rattle.osal_time.specs.Ticks.{ticked, timebase_tick_step, delete_bare}
+use Rattle.osal_time.specs.Ticks.{ticked, timebase_tick_step, delete_unattached}
 use Rattle.osal_time.specs.Timers.{new_timer, attached, added_to, set_at, timer_set_step, detached, delete_timer}
 use Rattle.osal_time.specs.Attachment.{IsAttached, HasOwnTimers, AreAttached, TimersStayAttached}
 use Rattle.osal_time.proofs.Each.{Each, of_object, each_put, each_delete, each_create, each_hold, each_release}
@@ -81,7 +81,7 @@ module _ (capacity : ℕ) (time : TimeState) (all : AreAttached capacity time) w
   tick_keeps : (id usecs : ℕ) → Keeps (timebase_tick_step time id usecs)
   tick_keeps id usecs = either Keeps (usecs == 0) _ _ all (ticked_keeps id usecs (timebase_at time id) refl)
 
-  delete_keeps : (id : ℕ) (found : Option (Active Timebase)) → Keeps (delete_bare time id found)
+  delete_keeps : (id : ℕ) (found : Option (Active Timebase)) → Keeps (delete_unattached time id found)
   delete_keeps id None = all
   delete_keeps id (Some active) =
       either Keeps (is_held (Some active)) _ _ all

@@ -47,8 +47,8 @@ bytes_of [] = []
 bytes_of (firing ∷ firings) = firing_bytes firing ++ bytes_of firings
 
 -- how many timers fired, and which
-abbrev pub told : List Firing → Replied
-told firings = gives_bytes (length firings) (bytes_of firings)
+abbrev pub firings_reply : List Firing → Replied
+firings_reply firings = gives_bytes (length firings) (bytes_of firings)
 
 -- OS_TimeBaseCreate: name faults, create faults; else the identifier of a timebase whose sum is 0
 abbrev pub timebase_create_step : TimeState → List ℕ → Replied × TimeState
@@ -61,7 +61,7 @@ ticked time id usecs None = (refusal status.ErrInvalidId, time)
 ticked time id usecs (Some active) =
     if nat_lt sum_limit (active.object.sum + usecs) then (refusal status.Error, time)
     else (
-      told (firings time.timers.table active.object.sum (active.object.sum + usecs) active.object.timers),
+      firings_reply (firings time.timers.table active.object.sum (active.object.sum + usecs) active.object.timers),
       record time { timebases = with_value time.timebases id (record active.object { sum = active.object.sum + usecs }) },
     )
 
@@ -72,25 +72,25 @@ timebase_tick_step time id usecs =
     if usecs == 0 then (refusal status.TimerErrInvalidArgs, time) else ticked time id usecs (timebase_at time id)
 
 -- the sum of a timebase that is there, in 32 bits
-abbrev pub run_of : Option (Active Timebase) → Replied
-run_of None = refusal status.ErrInvalidId
-run_of (Some active) = gives (active.object.sum % 2 ^ 32)
+abbrev pub free_run_of : Option (Active Timebase) → Replied
+free_run_of None = refusal status.ErrInvalidId
+free_run_of (Some active) = gives (active.object.sum % 2 ^ 32)
 
 -- OS_TimeBaseGetFreeRun: an identifier that is not active; else the sum, in 32 bits
 abbrev pub timebase_free_run_step : TimeState → ℕ → Replied × TimeState
-timebase_free_run_step time id = (run_of (timebase_at time id), time)
+timebase_free_run_step time id = (free_run_of (timebase_at time id), time)
 
 -- a timebase that is there and not held is removed, unless a timer is attached to it
-abbrev pub delete_bare : TimeState → ℕ → Option (Active Timebase) → Replied × TimeState
-delete_bare time id None = (refusal status.ErrInvalidId, time)
-delete_bare time id (Some active) =
+abbrev pub delete_unattached : TimeState → ℕ → Option (Active Timebase) → Replied × TimeState
+delete_unattached time id None = (refusal status.ErrInvalidId, time)
+delete_unattached time id (Some active) =
     if is_held (Some active) then (refusal status.ErrObjectInUse, time)
     else (if nat_lt 0 (length active.object.timers) then (refusal status.ErrObjectInUse, time)
     else in_timebases time (delete_step time.timebases id))
 
 -- OS_TimeBaseDelete: an identifier that is not active, a timebase that is held or has a timer; else it is removed
 abbrev pub timebase_delete_step : TimeState → ℕ → Replied × TimeState
-timebase_delete_step time id = delete_bare time id (timebase_at time id)
+timebase_delete_step time id = delete_unattached time id (timebase_at time id)
 
 -- OS_TimeBaseGetIdByName: name faults, no such name; else the identifier
 abbrev pub timebase_find_step : TimeState → List ℕ → Replied × TimeState

@@ -1,4 +1,5 @@
-//! Timebases, timers, and the moment that it is: the calls of OSAL's `osapi-timebase.h` and `osapi-timer.h`.
+//! Timebases, timers, and the moment that it is: the calls of OSAL's `osapi-timebase.h` and `osapi-timer.h`, but for
+//! `OS_TimeBaseSet`, `OS_TimeBaseGetInfo` and `OS_TimerCreate`.
 #![tactic(auto)]
 
 pub mod laws;

@@ -1,5 +1,5 @@
 //! The time part.
-ghost use Rattle.std.specs.Prelude.{◌≡◌, IsOk, IfOk, is_some};
+ghost use Rattle.std.specs.Prelude.{◌≡◌, IsOk, IfOk};
 ghost use Rattle.osal_base.specs.Limits.{Fits};
 ghost use Rattle.osal_base.specs.Reply.{replied};
 ghost use Rattle.osal_time.specs.Time.{time_start, is_timer, is_active, hold_step, release_step, advance_step};
@@ -35,7 +35,7 @@ impl Model for TimePart {
     ghost invariant = { λ a. Unit {0} };
 }
 
-// Whether an identifier is one of a timer.
+/// Whether an identifier is one of a timer.
 fn is_timer(id: OsalId) -> bool
     ensures { result ≡ is_timer id }
 {

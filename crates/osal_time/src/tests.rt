@@ -1,4 +1,4 @@
-//! What the time part answers, call by call. No call depends on the task or on the moment that it is given.
+//! What the time part answers, call by call. No call looks at the task or at the moment that it is given.
 use crate::timebase::SUM_LIMIT;
 use crate::{Setting, TimePart, Timebase, Timer};
 use osal_base::Status::{

@@ -3,7 +3,7 @@ ghost use Rattle.std.specs.Prelude.{◌≡◌, ◌<◌, ◌≤◌, ◌+◌, ◌-
 ghost use Rattle.osal_base.specs.Reply.{replied};
 ghost use Rattle.osal_time.specs.Timebase.{sum_limit, timer_limit};
 ghost use Rattle.osal_idtable.specs.Table.{active_at};
-ghost use Rattle.osal_time.specs.Ticks.{firing_of, firing_bytes, bytes_of, firings, told, timebase_create_step, timebase_tick_step, timebase_free_run_step, timebase_delete_step, timebase_find_step};
+ghost use Rattle.osal_time.specs.Ticks.{firing_of, firing_bytes, bytes_of, firings, firings_reply, timebase_create_step, timebase_tick_step, timebase_free_run_step, timebase_delete_step, timebase_find_step};
 
 use crate::timebase::SUM_LIMIT;
 use crate::{TimePart, Timebase, Timer};
@@ -155,7 +155,7 @@ fn fire(timers: &Objects<Timer, ()>, attached: &[u32], from: u64, to: u64, room:
     requires from { from ≤ sum_limit }
     requires to { to ≤ sum_limit }
     requires near { to - from < 2 ^ 32 }
-    ensures { replied result room.new ≡ told (firings timers.now.table from to attached.now) }
+    ensures { replied result room.new ≡ firings_reply (firings timers.now.table from to attached.now) }
 {
     let mut fired = 0;
     for raw in attached {

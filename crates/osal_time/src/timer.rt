@@ -1,6 +1,6 @@
 //! One timer, and when it expires.
 ghost use Rattle.std.specs.Prelude.{◌≡◌, ◌≤◌, ◌-◌};
-ghost use Rattle.osal_time.specs.Expiry.{first_after, expired_by, expired, expiries_between};
+ghost use Rattle.osal_time.specs.Expiry.{first_after, expired_by, expiries_between};
 ghost use Rattle.osal_time.specs.Timebase.{sum_limit};
 
 use osal_base::OsalId;

@@ -1,4 +1,4 @@
-use Rattle.std.proofs.Common.{◌≡◌, ◌-◌, ◌*◌, ◌∙◌, ℕ, length, drop, sym, ap, arith}
+use Rattle.std.proofs.Common.{◌-◌, ◌*◌, ◌∙◌, length, drop, sym, ap, arith}
 use Rattle.osal_script.proofs.Groups.{few_numbers, one_group, no_group}
 use Rattle.osal_script.proofs.handling.handlers_in.Goals as goal
 

@@ -1,4 +1,4 @@
-use Rattle.std.proofs.Common.{◌≡◌, ◌++◌, ◌∙◌, List, map, sym, ap}
+use Rattle.std.proofs.Common.{◌++◌, ◌∙◌, List, map, sym, ap}
 use Rattle.osal_script.specs.Script.{Pending, Frames, in_body}
 use Rattle.osal_script.specs.Cursor.{first_frame}
 use Rattle.osal_script.proofs.Frames.{no_handler, body_frame}

@@ -1,6 +1,6 @@
 use Rattle.std.proofs.Common.{◌≡◌, ◌<◌, ◌≤◌, ◌+◌, ◌-◌, ◌∙◌, ℕ, List, length, take, drop, reverse, sym, ap, arith}
 use Rattle.osal_script.proofs.Lists.{innermost}
-use Rattle.osal_script.proofs.handling.Waiting.pop.Goals as goal
+use Rattle.osal_script.proofs.handling.HandlerNumbers.pop.Goals as goal
 
 below_top : (numbers view : List ℕ) (count : ℕ) → 0 < count → count ≤ length numbers → reverse (take count numbers) ≡ view → reverse (take (count - 1) numbers) ≡ drop 1 view
 below_top numbers view count some within is =
