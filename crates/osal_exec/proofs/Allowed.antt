@@ -16,11 +16,12 @@ use Rattle.osal_machine.specs.Step.{MachineState, part_in, step, is_ready}
 use Rattle.osal_machine.specs.OpenWaits.{has_wait}
 use Rattle.osal_machine.proofs.CallWaits.{near_part, end_at}
 use Rattle.osal_machine.proofs.DueCounts.{any_part}
+use Rattle.osal_line.specs.Exit.{is_exit_line}
 use Rattle.osal_script.specs.declared.phase.Phase.{Phase}
 use Rattle.osal_script.specs.declared.phase.Phase.TheVariants as phase
 use Rattle.osal_script.specs.Cursor.{call_in}
 use Rattle.osal_script.specs.App.{ScriptBody}
-use Rattle.osal_script.specs.Script.{Pending, Frames, ScriptState, is_checkpoint, is_success, is_exit_line, phase_after_checkpoint, IsCheckpointAnswer, MayCome, after_in, after_answer, is_ended}
+use Rattle.osal_script.specs.Script.{Pending, Frames, ScriptState, is_checkpoint, is_success, phase_after_checkpoint, IsCheckpointAnswer, MayCome, after_in, after_answer, is_ended}
 use Rattle.osal_runs.specs.Waiting.{waits_on_in, waits_on}
 use Rattle.osal_runs.specs.Linked.{IsLinkedAt, is_live, is_leaving}
 use Rattle.osal_runs.proofs.ScriptCalls.{unsaid_checkpoint, unsaid_end}

@@ -9,14 +9,14 @@ use Rattle.osal_base.specs.declared.reply.Answer.TheVariants as answer
 use Rattle.osal_base.specs.Reply.{Replied, reply_of, is_waits}
 use Rattle.osal_machine.specs.declared.call.Call.{Call}
 use Rattle.osal_machine.specs.declared.call.Entry.{Entry}
-use Rattle.osal_script.specs.declared.app.ScriptCall.{ScriptCall}
-use Rattle.osal_script.specs.declared.app.Line.{Line}
-use Rattle.osal_script.specs.declared.app.Expect.{Expect}
-use Rattle.osal_script.specs.declared.app.Value.{Value}
-use Rattle.osal_script.specs.declared.app.Value.TheVariants as value
+use Rattle.osal_line.specs.declared.line.ScriptCall.{ScriptCall}
+use Rattle.osal_line.specs.declared.line.Line.{Line}
+use Rattle.osal_line.specs.declared.expectation.Expect.{Expect}
+use Rattle.osal_line.specs.declared.expectation.Value.{Value}
+use Rattle.osal_line.specs.declared.expectation.Value.TheVariants as value
+use Rattle.osal_line.specs.Calls.{register_of}
 use Rattle.osal_script.specs.declared.phase.Phase.{Phase}
 use Rattle.osal_script.specs.declared.phase.Phase.TheVariants as phase
-use Rattle.osal_script.specs.Calls.{register_of}
 use Rattle.osal_script.specs.Script.{Pending, ScriptState, start_of, is_checkpoint, after_entry}
 use Rattle.osal_runs.specs.Segments.{Segment}
 use Rattle.osal_report.specs.Names.{call_name}

@@ -3,7 +3,7 @@ use Rattle.std.specs.Prelude.{◌≡◌, ◌==◌, ◌≤◌, ◌+◌, ◌++◌,
 use Rattle.osal_machine.specs.declared.call.Entry.{Entry}
 use Rattle.osal_script.specs.Script.{ScriptState, after_entry}
 use Rattle.osal_runs.specs.Segments.{Segment, script_in}
-use Rattle.osal_script.specs.declared.app.Line.{Line}
+use Rattle.osal_line.specs.declared.line.Line.{Line}
 use Rattle.osal_script.specs.Cursor.{first_line}
 use Rattle.osal_report.specs.Names.{call_name}
 use Rattle.osal_report.specs.Cases.{case_by, cases_of, cases_text, passed, failed}

@@ -1,23 +1,23 @@
 -- The names of calls, as lines write them.
 use Rattle.std.specs.Prelude.{List, ℕ, codes}
-use Rattle.osal_script.specs.declared.app.ScriptCall.{ScriptCall}
-use Rattle.osal_script.specs.declared.app.ScriptCall.TheVariants as script
-use Rattle.osal_script.specs.declared.tasks.TaskCall.{TaskCall}
-use Rattle.osal_script.specs.declared.tasks.TaskCall.TheVariants as task
-use Rattle.osal_script.specs.declared.queues.QueueCall.{QueueCall}
-use Rattle.osal_script.specs.declared.queues.QueueCall.TheVariants as queue
-use Rattle.osal_script.specs.declared.counting.CountSemCall.{CountSemCall}
-use Rattle.osal_script.specs.declared.counting.CountSemCall.TheVariants as count_sem
-use Rattle.osal_script.specs.declared.binary.BinSemCall.{BinSemCall}
-use Rattle.osal_script.specs.declared.binary.BinSemCall.TheVariants as bin_sem
-use Rattle.osal_script.specs.declared.mutexes.MutexCall.{MutexCall}
-use Rattle.osal_script.specs.declared.mutexes.MutexCall.TheVariants as mutex
-use Rattle.osal_script.specs.declared.condvars.CondvarCall.{CondvarCall}
-use Rattle.osal_script.specs.declared.condvars.CondvarCall.TheVariants as condvar
-use Rattle.osal_script.specs.declared.timebases.TimebaseCall.{TimebaseCall}
-use Rattle.osal_script.specs.declared.timebases.TimebaseCall.TheVariants as timebase
-use Rattle.osal_script.specs.declared.timers.TimerCall.{TimerCall}
-use Rattle.osal_script.specs.declared.timers.TimerCall.TheVariants as timer
+use Rattle.osal_line.specs.declared.line.ScriptCall.{ScriptCall}
+use Rattle.osal_line.specs.declared.line.ScriptCall.TheVariants as script
+use Rattle.osal_line.specs.declared.tasks.TaskCall.{TaskCall}
+use Rattle.osal_line.specs.declared.tasks.TaskCall.TheVariants as task
+use Rattle.osal_line.specs.declared.queues.QueueCall.{QueueCall}
+use Rattle.osal_line.specs.declared.queues.QueueCall.TheVariants as queue
+use Rattle.osal_line.specs.declared.counting.CountSemCall.{CountSemCall}
+use Rattle.osal_line.specs.declared.counting.CountSemCall.TheVariants as count_sem
+use Rattle.osal_line.specs.declared.binary.BinSemCall.{BinSemCall}
+use Rattle.osal_line.specs.declared.binary.BinSemCall.TheVariants as bin_sem
+use Rattle.osal_line.specs.declared.mutexes.MutexCall.{MutexCall}
+use Rattle.osal_line.specs.declared.mutexes.MutexCall.TheVariants as mutex
+use Rattle.osal_line.specs.declared.condvars.CondvarCall.{CondvarCall}
+use Rattle.osal_line.specs.declared.condvars.CondvarCall.TheVariants as condvar
+use Rattle.osal_line.specs.declared.timebases.TimebaseCall.{TimebaseCall}
+use Rattle.osal_line.specs.declared.timebases.TimebaseCall.TheVariants as timebase
+use Rattle.osal_line.specs.declared.timers.TimerCall.{TimerCall}
+use Rattle.osal_line.specs.declared.timers.TimerCall.TheVariants as timer
 
 -- the calls on tasks
 abbrev pub task_name : TaskCall → List ℕ

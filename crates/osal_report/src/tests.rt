@@ -1,7 +1,8 @@
 ghost use Rattle.std.specs.Prelude.{◌≡◌, IfOk};
 ghost use Rattle.std.specs.List.{AllByRecursion};
-ghost use Rattle.osal_script.specs.declared.app.BodyKind.TheVariants as kind;
-ghost use Rattle.osal_script.specs.App.{NamesBetween, ItemNames};
+ghost use Rattle.osal_line.specs.declared.kind.BodyKind.TheVariants as kind;
+ghost use Rattle.osal_line.specs.Between.{NamesBetween};
+ghost use Rattle.osal_script.specs.App.{ItemNames};
 ghost use Rattle.osal_script.specs.Nesting.{IsNested};
 
 use crate::names::call_name;

@@ -3,23 +3,23 @@
 use Rattle.std.proofs.Common.{◌≡◌, ◌≤◌, ℕ, Bool, true, false, List, refl, arith}
 use Rattle.osal_machine.specs.declared.call.Call.{Call}
 use Rattle.osal_machine.specs.declared.call.Call.TheVariants as call
-use Rattle.osal_script.specs.declared.queues.QueueCall.{QueueCall}
-use Rattle.osal_script.specs.declared.queues.QueueCall.TheVariants as queue
-use Rattle.osal_script.specs.declared.counting.CountSemCall.{CountSemCall}
-use Rattle.osal_script.specs.declared.counting.CountSemCall.TheVariants as count_sem
-use Rattle.osal_script.specs.declared.binary.BinSemCall.{BinSemCall}
-use Rattle.osal_script.specs.declared.binary.BinSemCall.TheVariants as bin_sem
-use Rattle.osal_script.specs.declared.mutexes.MutexCall.{MutexCall}
-use Rattle.osal_script.specs.declared.mutexes.MutexCall.TheVariants as mutex
-use Rattle.osal_script.specs.declared.condvars.CondvarCall.{CondvarCall}
-use Rattle.osal_script.specs.declared.condvars.CondvarCall.TheVariants as condvar
-use Rattle.osal_script.specs.declared.timebases.TimebaseCall.{TimebaseCall}
-use Rattle.osal_script.specs.declared.timebases.TimebaseCall.TheVariants as timebase
-use Rattle.osal_script.specs.declared.timers.TimerCall.{TimerCall}
-use Rattle.osal_script.specs.declared.timers.TimerCall.TheVariants as timer
-use Rattle.osal_script.specs.App.{is_tick}
-use Rattle.osal_script.specs.Calls.{queue_call, count_sem_call, bin_sem_call, mutex_call, condvar_call, timebase_call, timer_call}
-use Rattle.osal_script.specs.Cost.{queue_cost, count_sem_cost, bin_sem_cost, mutex_cost, condvar_cost}
+use Rattle.osal_line.specs.declared.queues.QueueCall.{QueueCall}
+use Rattle.osal_line.specs.declared.queues.QueueCall.TheVariants as queue
+use Rattle.osal_line.specs.declared.counting.CountSemCall.{CountSemCall}
+use Rattle.osal_line.specs.declared.counting.CountSemCall.TheVariants as count_sem
+use Rattle.osal_line.specs.declared.binary.BinSemCall.{BinSemCall}
+use Rattle.osal_line.specs.declared.binary.BinSemCall.TheVariants as bin_sem
+use Rattle.osal_line.specs.declared.mutexes.MutexCall.{MutexCall}
+use Rattle.osal_line.specs.declared.mutexes.MutexCall.TheVariants as mutex
+use Rattle.osal_line.specs.declared.condvars.CondvarCall.{CondvarCall}
+use Rattle.osal_line.specs.declared.condvars.CondvarCall.TheVariants as condvar
+use Rattle.osal_line.specs.declared.timebases.TimebaseCall.{TimebaseCall}
+use Rattle.osal_line.specs.declared.timebases.TimebaseCall.TheVariants as timebase
+use Rattle.osal_line.specs.declared.timers.TimerCall.{TimerCall}
+use Rattle.osal_line.specs.declared.timers.TimerCall.TheVariants as timer
+use Rattle.osal_line.specs.Bare.{is_tick}
+use Rattle.osal_line.specs.Calls.{queue_call, count_sem_call, bin_sem_call, mutex_call, condvar_call, timebase_call, timer_call}
+use Rattle.osal_line.specs.Price.{queue_cost, count_sem_cost, bin_sem_cost, mutex_cost, condvar_cost}
 use Rattle.osal_runs.specs.Linked.{is_creation}
 use Rattle.osal_runs.proofs.LineCalls.{is_exit, wait_cost_of}
 

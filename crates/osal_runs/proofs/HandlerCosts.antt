@@ -6,19 +6,21 @@ use Rattle.std.proofs.lemmas.Bool.{cond_both, cond-false, cases_Bool, false≢tr
 use Rattle.osal_base.specs.Limits.{version1}
 use Rattle.osal_base.specs.Reply.{Replied}
 use Rattle.osal_time.specs.Timebase.{timer_limit}
-use Rattle.osal_script.specs.declared.app.BodyKind.{BodyKind}
-use Rattle.osal_script.specs.declared.app.BodyKind.TheVariants as kind
-use Rattle.osal_script.specs.declared.app.ScriptCall.{ScriptCall}
-use Rattle.osal_script.specs.declared.app.ScriptCall.TheVariants as script_call
-use Rattle.osal_script.specs.declared.tasks.TaskCall.{TaskCall}
-use Rattle.osal_script.specs.declared.tasks.TaskCall.TheVariants as task_line
-use Rattle.osal_script.specs.declared.timebases.TimebaseCall.{TimebaseCall}
-use Rattle.osal_script.specs.declared.timebases.TimebaseCall.TheVariants as timebase_line
-use Rattle.osal_script.specs.declared.app.Line.{Line}
-use Rattle.osal_script.specs.declared.app.Item.{Item}
-use Rattle.osal_script.specs.declared.app.Item.TheVariants as item
-use Rattle.osal_script.specs.App.{ScriptBody, lines_of, is_task_creation, is_tick, is_tick_line, IsBare, ItemIsBare, HandlerIsBare}
-use Rattle.osal_script.specs.Cost.{Prices, no_prices, task_cost, timebase_cost, line_cost, handler_cost, greatest_handler, tick_cost}
+use Rattle.osal_line.specs.declared.kind.BodyKind.{BodyKind}
+use Rattle.osal_line.specs.declared.kind.BodyKind.TheVariants as kind
+use Rattle.osal_line.specs.declared.line.ScriptCall.{ScriptCall}
+use Rattle.osal_line.specs.declared.line.ScriptCall.TheVariants as script_call
+use Rattle.osal_line.specs.declared.tasks.TaskCall.{TaskCall}
+use Rattle.osal_line.specs.declared.tasks.TaskCall.TheVariants as task_line
+use Rattle.osal_line.specs.declared.timebases.TimebaseCall.{TimebaseCall}
+use Rattle.osal_line.specs.declared.timebases.TimebaseCall.TheVariants as timebase_line
+use Rattle.osal_line.specs.declared.line.Line.{Line}
+use Rattle.osal_line.specs.Bare.{is_task_creation, is_tick, is_tick_line, IsBare}
+use Rattle.osal_line.specs.Price.{Prices, task_cost, timebase_cost, line_cost}
+use Rattle.osal_script.specs.declared.item.Item.{Item}
+use Rattle.osal_script.specs.declared.item.Item.TheVariants as item
+use Rattle.osal_script.specs.App.{ScriptBody, lines_of, ItemIsBare, HandlerIsBare}
+use Rattle.osal_script.specs.Cost.{no_prices, handler_cost, greatest_handler, tick_cost}
 use Rattle.osal_script.specs.Script.{Pending, OfHandler, of_handler, handler_numbers, lines_if_handler, handler_lines, put_in, is_of_body, is_success, fired}
 use Rattle.osal_runs.specs.Potential.{lines_cost}
 use Rattle.osal_runs.proofs.Names.{all_weaker}

@@ -27,7 +27,7 @@ use Rattle.osal_machine.proofs.PartWaits.{seen_in}
 use Rattle.osal_machine.proofs.TaskMoves.{moves_tasks}
 use Rattle.osal_machine.proofs.TasksKept.{shape_kept, active_kept}
 use Rattle.osal_machine.proofs.Timeouts.{timeout_of, ends_wait}
-use Rattle.osal_script.specs.Cost.{wait_cost}
+use Rattle.osal_line.specs.Price.{wait_cost}
 use Rattle.osal_script.specs.Script.{is_success}
 use Rattle.osal_script.specs.declared.phase.Phase.{Phase}
 use Rattle.osal_runs.specs.Linked.{IsLinkedAt}

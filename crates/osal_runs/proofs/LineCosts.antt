@@ -1,17 +1,19 @@
 -- The cost of a body is that of its lines with the repeats written out, and of the bodies that they name.
 use Rattle.std.proofs.Common.{◌≡◌, ◌<◌, ◌+◌, ◌-◌, ◌*◌, ◌++◌, ℕ, zero, suc, List, [], ◌∷◌, length, map, Some, slice_get, slice_index, refl, sym, ap, ◌∙◌, arith}
 use Rattle.std.specs.List.{AllByRecursion}
-use Rattle.osal_script.specs.declared.app.ScriptCall.{ScriptCall}
-use Rattle.osal_script.specs.declared.app.ScriptCall.TheVariants as script_call
-use Rattle.osal_script.specs.declared.tasks.TaskCall.{TaskCall}
-use Rattle.osal_script.specs.declared.tasks.TaskCall.TheVariants as task_line
-use Rattle.osal_script.specs.declared.timebases.TimebaseCall.{TimebaseCall}
-use Rattle.osal_script.specs.declared.timebases.TimebaseCall.TheVariants as timebase_line
-use Rattle.osal_script.specs.declared.app.Line.{Line}
-use Rattle.osal_script.specs.declared.app.Item.{Item}
-use Rattle.osal_script.specs.declared.app.Item.TheVariants as item
-use Rattle.osal_script.specs.App.{ScriptBody, Application, times, first_of_levels, onto_level, repeated, levels_of, lines_of, TaskNamesBetween, NamesBetween, ItemNames, NamesLaterFrom, NamesLater}
-use Rattle.osal_script.specs.Cost.{Prices, task_cost, timebase_cost, line_cost, onto_cost, repeated_cost, level_costs, first_cost, body_cost, tick_cost, costs_from}
+use Rattle.osal_line.specs.declared.line.ScriptCall.{ScriptCall}
+use Rattle.osal_line.specs.declared.line.ScriptCall.TheVariants as script_call
+use Rattle.osal_line.specs.declared.tasks.TaskCall.{TaskCall}
+use Rattle.osal_line.specs.declared.tasks.TaskCall.TheVariants as task_line
+use Rattle.osal_line.specs.declared.timebases.TimebaseCall.{TimebaseCall}
+use Rattle.osal_line.specs.declared.timebases.TimebaseCall.TheVariants as timebase_line
+use Rattle.osal_line.specs.declared.line.Line.{Line}
+use Rattle.osal_line.specs.Between.{TaskNamesBetween, NamesBetween}
+use Rattle.osal_line.specs.Price.{Prices, task_cost, timebase_cost, line_cost}
+use Rattle.osal_script.specs.declared.item.Item.{Item}
+use Rattle.osal_script.specs.declared.item.Item.TheVariants as item
+use Rattle.osal_script.specs.App.{ScriptBody, Application, times, first_of_levels, onto_level, repeated, levels_of, lines_of, ItemNames, NamesLaterFrom, NamesLater}
+use Rattle.osal_script.specs.Cost.{onto_cost, repeated_cost, level_costs, first_cost, body_cost, tick_cost, costs_from}
 use Rattle.osal_script.specs.Script.{Frame, OfBody, Pending, in_body}
 use Rattle.osal_runs.specs.Potential.{prices_of, lines_cost}
 use Rattle.osal_runs.proofs.Names.{later_at}

@@ -8,15 +8,16 @@ use Rattle.osal_base.specs.Text.{Text}
 use Rattle.osal_machine.specs.Call.{said}
 use Rattle.osal_machine.specs.declared.call.Call.TheVariants as call
 use Rattle.osal_machine.specs.declared.call.Entry.{Entry}
-use Rattle.osal_script.specs.declared.app.ScriptCall.{ScriptCall}
-use Rattle.osal_script.specs.declared.app.ScriptCall.TheVariants as script_call
-use Rattle.osal_script.specs.declared.tasks.TaskCall.{TaskCall}
-use Rattle.osal_script.specs.declared.tasks.TaskCall.TheVariants as task_line
-use Rattle.osal_script.specs.declared.app.Line.{Line}
-use Rattle.osal_script.specs.declared.app.Item.{Item}
-use Rattle.osal_script.specs.declared.app.Item.TheVariants as item
-use Rattle.osal_script.specs.App.{ScriptBody, Application, lines_of, TaskNamesBetween, NamesBetween, ItemNames, NamesLaterFrom, NamesLater}
-use Rattle.osal_script.specs.Calls.{task_call, call_of}
+use Rattle.osal_line.specs.declared.line.ScriptCall.{ScriptCall}
+use Rattle.osal_line.specs.declared.line.ScriptCall.TheVariants as script_call
+use Rattle.osal_line.specs.declared.tasks.TaskCall.{TaskCall}
+use Rattle.osal_line.specs.declared.tasks.TaskCall.TheVariants as task_line
+use Rattle.osal_line.specs.declared.line.Line.{Line}
+use Rattle.osal_line.specs.Between.{TaskNamesBetween, NamesBetween}
+use Rattle.osal_line.specs.Calls.{task_call, call_of}
+use Rattle.osal_script.specs.declared.item.Item.{Item}
+use Rattle.osal_script.specs.declared.item.Item.TheVariants as item
+use Rattle.osal_script.specs.App.{ScriptBody, Application, lines_of, ItemNames, NamesLaterFrom, NamesLater}
 use Rattle.osal_script.specs.Script.{Pending, Frames, ScriptState, start_of, line_call, after_entry}
 use Rattle.osal_runs.specs.Segments.{Segment, script_in, joined}
 use Rattle.osal_runs.specs.Linked.{no_script, newest_script, is_creation}

@@ -12,15 +12,15 @@ use Rattle.osal_machine.specs.History.{after_entry}
 use Rattle.osal_machine.specs.declared.call.Call.{Call}
 use Rattle.osal_machine.specs.declared.call.Call.TheVariants as call
 use Rattle.osal_machine.specs.declared.call.Entry.{Entry}
+use Rattle.osal_line.specs.declared.line.ScriptCall.{ScriptCall}
+use Rattle.osal_line.specs.declared.line.ScriptCall.TheVariants as script_call
+use Rattle.osal_line.specs.declared.tasks.TaskCall.{TaskCall}
+use Rattle.osal_line.specs.declared.tasks.TaskCall.TheVariants as task_line
+use Rattle.osal_line.specs.Calls.{task_call, call_of}
+use Rattle.osal_line.specs.Price.{Prices, task_cost, line_cost}
 use Rattle.osal_script.specs.declared.phase.Phase.{Phase}
 use Rattle.osal_script.specs.declared.phase.Phase.TheVariants as phase
 use Rattle.osal_script.specs.App.{Application, ScriptBody, NamesLater, HandlersAreBare}
-use Rattle.osal_script.specs.declared.app.ScriptCall.{ScriptCall}
-use Rattle.osal_script.specs.declared.app.ScriptCall.TheVariants as script_call
-use Rattle.osal_script.specs.declared.tasks.TaskCall.{TaskCall}
-use Rattle.osal_script.specs.declared.tasks.TaskCall.TheVariants as task_line
-use Rattle.osal_script.specs.Calls.{task_call, call_of}
-use Rattle.osal_script.specs.Cost.{Prices, task_cost, line_cost}
 use Rattle.osal_script.specs.Script as script
 use Rattle.osal_script.specs.Script.{Pending, Frames, ScriptState, frame_at, MayCome, IsNext, start_of, after, after_in, after_answer, line_call, is_success}
 use Rattle.osal_runs.specs.Segments.{Segment, is_of, has_segment, joined, segment_with, begun, recorded}

@@ -5,14 +5,15 @@ use Rattle.std.proofs.lemmas.Bool.{cond_both}
 use Rattle.osal_base.specs.Reply.{Replied, is_waits}
 use Rattle.osal_machine.specs.declared.call.Call.{Call}
 use Rattle.osal_time.specs.Timebase.{timer_limit}
-use Rattle.osal_script.specs.declared.app.BodyKind.{BodyKind}
-use Rattle.osal_script.specs.declared.app.BodyKind.TheVariants as kind
-use Rattle.osal_script.specs.declared.app.Line.{Line}
-use Rattle.osal_script.specs.declared.app.Item.{Item}
-use Rattle.osal_script.specs.declared.app.Item.TheVariants as item
+use Rattle.osal_line.specs.declared.kind.BodyKind.{BodyKind}
+use Rattle.osal_line.specs.declared.kind.BodyKind.TheVariants as kind
+use Rattle.osal_line.specs.declared.line.Line.{Line}
+use Rattle.osal_line.specs.Bare.{is_tick_line}
+use Rattle.osal_script.specs.declared.item.Item.{Item}
+use Rattle.osal_script.specs.declared.item.Item.TheVariants as item
 use Rattle.osal_script.specs.declared.phase.Phase.{Phase}
 use Rattle.osal_script.specs.declared.phase.Phase.TheVariants as phase
-use Rattle.osal_script.specs.App.{ScriptBody, times, first_of_levels, onto_level, repeated, levels_of, lines_of, is_tick_line}
+use Rattle.osal_script.specs.App.{ScriptBody, times, first_of_levels, onto_level, repeated, levels_of, lines_of}
 use Rattle.osal_script.specs.Script.{Pending, Frames, ScriptState, in_body, in_handler, of_handler, handler_numbers, lines_if_handler, handler_lines, put_in, is_of_body, is_success, fired, is_checkpoint, after_answer, after_in}
 use Rattle.osal_runs.proofs.Joining.{all_more}
 

@@ -15,15 +15,16 @@ use Rattle.osal_machine.proofs.CallWaits.{near_part, end_at, abandon_at, others_
 use Rattle.osal_machine.proofs.PartWaits.{seen_in}
 use Rattle.osal_machine.proofs.TaskMoves.{moves_tasks}
 use Rattle.osal_machine.proofs.TasksKept.{active_kept}
-use Rattle.osal_script.specs.declared.app.ScriptCall.{ScriptCall}
-use Rattle.osal_script.specs.declared.app.ScriptCall.TheVariants as script
-use Rattle.osal_script.specs.declared.tasks.TaskCall.{TaskCall}
-use Rattle.osal_script.specs.declared.tasks.TaskCall.TheVariants as task_line
+use Rattle.osal_line.specs.declared.line.ScriptCall.{ScriptCall}
+use Rattle.osal_line.specs.declared.line.ScriptCall.TheVariants as script
+use Rattle.osal_line.specs.declared.tasks.TaskCall.{TaskCall}
+use Rattle.osal_line.specs.declared.tasks.TaskCall.TheVariants as task_line
+use Rattle.osal_line.specs.Calls.{task_call, call_of}
+use Rattle.osal_line.specs.Exit.{is_task_exit, is_exit_line}
 use Rattle.osal_script.specs.declared.phase.Phase.{Phase}
 use Rattle.osal_script.specs.declared.phase.Phase.TheVariants as phase
 use Rattle.osal_script.specs.App.{ScriptBody}
-use Rattle.osal_script.specs.Calls.{task_call, call_of}
-use Rattle.osal_script.specs.Script.{Pending, Frames, ScriptState, line_call, is_task_exit, is_exit_line, is_success, after_answer, phase_after_checkpoint, after_in}
+use Rattle.osal_script.specs.Script.{Pending, Frames, ScriptState, line_call, is_success, after_answer, phase_after_checkpoint, after_in}
 use Rattle.osal_runs.specs.Linked.{IsLinkedAt, waits_in}
 use Rattle.osal_runs.proofs.TaskCalls.{AreUnheld}
 pub use Rattle.osal_runs.proofs.Families.{is_of_line}

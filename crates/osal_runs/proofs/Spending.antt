@@ -9,16 +9,19 @@ use Rattle.osal_machine.specs.Call.{said}
 use Rattle.osal_machine.specs.Step.{MachineState, step}
 use Rattle.osal_machine.specs.declared.call.Call.{Call}
 use Rattle.osal_machine.specs.declared.call.Call.TheVariants as call
-use Rattle.osal_script.specs.declared.app.ScriptCall.{ScriptCall}
-use Rattle.osal_script.specs.declared.app.ScriptCall.TheVariants as script_call
-use Rattle.osal_script.specs.declared.tasks.TaskCall.{TaskCall}
-use Rattle.osal_script.specs.declared.tasks.TaskCall.TheVariants as task_line
+use Rattle.osal_line.specs.declared.line.ScriptCall.{ScriptCall}
+use Rattle.osal_line.specs.declared.line.ScriptCall.TheVariants as script_call
+use Rattle.osal_line.specs.declared.tasks.TaskCall.{TaskCall}
+use Rattle.osal_line.specs.declared.tasks.TaskCall.TheVariants as task_line
+use Rattle.osal_line.specs.Bare.{is_tick_line}
+use Rattle.osal_line.specs.Calls.{task_call, call_of}
+use Rattle.osal_line.specs.Price.{Prices, task_cost, line_cost}
+use Rattle.osal_line.specs.Exit.{is_exit_line}
 use Rattle.osal_script.specs.declared.phase.Phase.{Phase}
 use Rattle.osal_script.specs.declared.phase.Phase.TheVariants as phase
-use Rattle.osal_script.specs.App.{ScriptBody, is_tick_line}
-use Rattle.osal_script.specs.Calls.{task_call, call_of}
-use Rattle.osal_script.specs.Cost.{Prices, task_cost, line_cost, tick_cost}
-use Rattle.osal_script.specs.Script.{Pending, Frames, ScriptState, MayCome, frame_at, line_call, is_success, is_exit_line, fired, after_answer, phase_after_line, phase_after_checkpoint, after_in}
+use Rattle.osal_script.specs.App.{ScriptBody}
+use Rattle.osal_script.specs.Cost.{tick_cost}
+use Rattle.osal_script.specs.Script.{Pending, Frames, ScriptState, MayCome, frame_at, line_call, is_success, fired, after_answer, phase_after_line, phase_after_checkpoint, after_in}
 use Rattle.osal_runs.specs.Linked.{IsLinkedAt, is_creation}
 use Rattle.osal_runs.specs.Potential.{lines_cost, rest_cost, script_potential}
 use Rattle.osal_runs.proofs.TaskCalls.{AreUnheld}

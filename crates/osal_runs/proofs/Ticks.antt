@@ -14,15 +14,17 @@ use Rattle.osal_machine.specs.declared.call.Call.{Call}
 use Rattle.osal_machine.specs.declared.call.Call.TheVariants as call
 use Rattle.osal_machine.specs.declared.call.Entry.{Entry}
 use Rattle.osal_machine.proofs.Attached.{tick_few}
-use Rattle.osal_script.specs.declared.app.ScriptCall.{ScriptCall}
-use Rattle.osal_script.specs.declared.app.ScriptCall.TheVariants as script
-use Rattle.osal_script.specs.declared.tasks.TaskCall.{TaskCall}
-use Rattle.osal_script.specs.declared.tasks.TaskCall.TheVariants as task_line
+use Rattle.osal_line.specs.declared.line.ScriptCall.{ScriptCall}
+use Rattle.osal_line.specs.declared.line.ScriptCall.TheVariants as script
+use Rattle.osal_line.specs.declared.tasks.TaskCall.{TaskCall}
+use Rattle.osal_line.specs.declared.tasks.TaskCall.TheVariants as task_line
+use Rattle.osal_line.specs.Bare.{is_tick_line}
+use Rattle.osal_line.specs.Calls.{task_call, call_of}
+use Rattle.osal_line.specs.Price.{Prices}
 use Rattle.osal_script.specs.declared.phase.Phase.{Phase}
 use Rattle.osal_script.specs.declared.phase.Phase.TheVariants as phase
-use Rattle.osal_script.specs.App.{Application, HandlersAreBare, is_tick_line}
-use Rattle.osal_script.specs.Calls.{task_call, call_of}
-use Rattle.osal_script.specs.Cost.{Prices, tick_cost}
+use Rattle.osal_script.specs.App.{Application, HandlersAreBare}
+use Rattle.osal_script.specs.Cost.{tick_cost}
 use Rattle.osal_script.specs.Script.{start_of, Pending, Frames, ScriptState, line_call, phase_after_checkpoint, is_checkpoint, after_answer, after_in, after_entry, MayCome, Follow, reached}
 use Rattle.osal_runs.specs.Segments.{Segment, script_in}
 use Rattle.osal_runs.specs.Runs.{FollowsScript}

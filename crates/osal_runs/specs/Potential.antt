@@ -1,11 +1,12 @@
 -- How many more entries a run may make.
 use Rattle.std.specs.Prelude.{◌+◌, List, [], ◌∷◌, ℕ, length, slice_index}
 use Rattle.osal_machine.specs.Step.{MachineState}
+use Rattle.osal_line.specs.Price.{Prices, line_cost}
 use Rattle.osal_script.specs.declared.phase.Phase.{Phase}
 use Rattle.osal_script.specs.declared.phase.Phase.TheVariants as phase
 use Rattle.osal_script.specs.App.{Application}
 use Rattle.osal_script.specs.Script.{Pending}
-use Rattle.osal_script.specs.Cost.{Prices, line_cost, tick_cost, costs_from}
+use Rattle.osal_script.specs.Cost.{tick_cost, costs_from}
 use Rattle.osal_runs.specs.Segments.{Segment, script_in}
 use Rattle.osal_runs.specs.Waiting.{deadlines}
 

@@ -4,21 +4,21 @@ use Rattle.std.specs.List.{list_all, list_any}
 use Rattle.std.specs.Option.{option_to_list}
 use Rattle.std.proofs.lemmas.Bool.{cond_both}
 use Rattle.std.proofs.lemmas.List.{length_push}
-use Rattle.osal_script.specs.declared.app.BodyKind.{BodyKind}
-use Rattle.osal_script.specs.declared.app.BodyKind.TheVariants as kind
+use Rattle.osal_line.specs.declared.kind.BodyKind.{BodyKind}
+use Rattle.osal_line.specs.declared.kind.BodyKind.TheVariants as kind
+use Rattle.osal_line.specs.declared.grammar.CallWord.{CallWord}
+use Rattle.osal_line.specs.declared.grammar.FirstWord.{FirstWord}
+use Rattle.osal_line.specs.declared.grammar.FirstWord.TheVariants as first
+use Rattle.osal_line.specs.Words.{words_of, is_line_byte}
+use Rattle.osal_line.specs.Values.{is_body_name, number_below}
+use Rattle.osal_line.specs.Vocabulary.{first_word, call_word, call_or_unbuilt, unbuilt_words}
+use Rattle.osal_line.specs.Declarations.{Declared, declared_by}
+use Rattle.osal_line.specs.Handlers.{is_handler, needs_task}
+use Rattle.osal_line.proofs.Declaring.{by_kind, of_no_kind, none_declared}
 use Rattle.osal_script.specs.declared.fault.FaultKind.{FaultKind}
-use Rattle.osal_script.specs.declared.grammar.CallWord.{CallWord}
-use Rattle.osal_script.specs.declared.grammar.FirstWord.{FirstWord}
-use Rattle.osal_script.specs.declared.grammar.FirstWord.TheVariants as first
-use Rattle.osal_script.specs.Words.{words_of, is_line_byte}
-use Rattle.osal_script.specs.Values.{is_body_name, number_below}
-use Rattle.osal_script.specs.Vocabulary.{first_word, call_word, call_or_unbuilt, unbuilt_words}
-use Rattle.osal_script.specs.Declarations.{Declared, declared_by}
 use Rattle.osal_script.specs.Draft.{OpenBody, Reading, one_of, begun}
-use Rattle.osal_script.specs.Handlers.{is_handler, needs_task}
 use Rattle.osal_script.specs.Blocks.{is_taken, with_body, begin_body, read_body, begin_repeat, repeat_in, read_repeat, finished, read_end}
 use Rattle.osal_script.specs.Reading.{body_after, read_call, read_by_word, is_comment, is_header, read_words, read_line}
-use Rattle.osal_script.proofs.Declaring.{by_kind, of_no_kind, none_declared}
 
 -- a line that is read leaves so many bodies begun
 abbrev pub HasBegun : ℕ → Result Reading FaultKind → Type 0

@@ -2,18 +2,21 @@
 use Rattle.std.proofs.Common.{◌≡◌, ◌<◌, ◌≤◌, ◌+◌, ◌-◌, ◌∙◌, ℕ, zero, suc, List, [], ◌∷◌, Some, length, take, drop, get_or, set, map, slice_index, slice_get, refl, sym, ap, subst, zero-add, arith}
 use Rattle.std.proofs.lemmas.List.{get_or-take, get_or-drop, drop-set}
 use Rattle.std.specs.List.{AllByRecursion}
-use Rattle.osal_script.specs.declared.app.ScriptCall.{ScriptCall}
-use Rattle.osal_script.specs.declared.app.ScriptCall.TheVariants as script
-use Rattle.osal_script.specs.declared.tasks.TaskCall.{TaskCall}
-use Rattle.osal_script.specs.declared.tasks.TaskCall.TheVariants as task
-use Rattle.osal_script.specs.declared.timebases.TimebaseCall.{TimebaseCall}
-use Rattle.osal_script.specs.declared.timebases.TimebaseCall.TheVariants as timebase
-use Rattle.osal_script.specs.declared.app.Item.{Item}
-use Rattle.osal_script.specs.declared.app.Item.TheVariants as item
-use Rattle.osal_script.specs.App.{ScriptBody, TaskNamesBetween, NamesBetween, ItemNames, NamesLaterFrom}
-use Rattle.osal_script.specs.declared.cost.Prices as kept
-use Rattle.osal_script.specs.Cost.{Prices, onto_cost, level_costs, task_cost, timebase_cost, line_cost, first_cost, costs_from}
-use Rattle.osal_script.specs.Saturated.{saturated, onto_saturated, repeated_saturated, prices_of}
+use Rattle.osal_line.specs.declared.line.ScriptCall.{ScriptCall}
+use Rattle.osal_line.specs.declared.line.ScriptCall.TheVariants as script
+use Rattle.osal_line.specs.declared.tasks.TaskCall.{TaskCall}
+use Rattle.osal_line.specs.declared.tasks.TaskCall.TheVariants as task
+use Rattle.osal_line.specs.declared.timebases.TimebaseCall.{TimebaseCall}
+use Rattle.osal_line.specs.declared.timebases.TimebaseCall.TheVariants as timebase
+use Rattle.osal_line.specs.Between.{TaskNamesBetween, NamesBetween}
+use Rattle.osal_line.specs.declared.price.Prices as kept
+use Rattle.osal_line.specs.Price.{Prices, task_cost, timebase_cost, line_cost}
+use Rattle.osal_line.specs.Saturated.{saturated, prices_of}
+use Rattle.osal_script.specs.declared.item.Item.{Item}
+use Rattle.osal_script.specs.declared.item.Item.TheVariants as item
+use Rattle.osal_script.specs.App.{ScriptBody, ItemNames, NamesLaterFrom}
+use Rattle.osal_script.specs.Cost.{onto_cost, level_costs, first_cost, costs_from}
+use Rattle.osal_script.specs.Saturated.{onto_saturated, repeated_saturated}
 use Rattle.osal_script.proofs.Lists.{begins_with}
 use Rattle.osal_script.proofs.Costs.{saturated-repeated, saturated_sum}
 

@@ -2,11 +2,13 @@
 use Rattle.std.proofs.Common.{◌≡◌, ◌<◌, ◌≤◌, ◌+◌, ◌-◌, ◌*◌, ◌^◌, ◌∙◌, ℕ, zero, suc, List, [], ◌∷◌, Some, length, drop, get_or, map, min, inl, inr, refl, sym, ap, arith}
 use Rattle.std.proofs.lemmas.Bool.{cases_lt}
 use Rattle.std.proofs.lemmas.List.{drop_more, length-map}
-use Rattle.osal_script.specs.declared.app.Item.{Item}
-use Rattle.osal_script.specs.declared.app.Item.TheVariants as item
-use Rattle.osal_script.specs.Cost.{Prices, onto_cost, repeated_cost, level_costs, line_cost}
+use Rattle.osal_line.specs.Price.{Prices, line_cost}
+use Rattle.osal_line.specs.Saturated.{saturated}
+use Rattle.osal_script.specs.declared.item.Item.{Item}
+use Rattle.osal_script.specs.declared.item.Item.TheVariants as item
+use Rattle.osal_script.specs.Cost.{onto_cost, repeated_cost, level_costs}
 use Rattle.osal_script.specs.Nesting.{depth_after, IsNested}
-use Rattle.osal_script.specs.Saturated.{saturated, repeated_saturated}
+use Rattle.osal_script.specs.Saturated.{repeated_saturated}
 use Rattle.osal_script.proofs.Nesting.{repeat_nested, end_nested}
 
 length_onto : (cost : ℕ) (levels : List ℕ) → 0 < length levels → length (onto_cost cost levels) ≡ length levels

@@ -1,7 +1,7 @@
 -- The registers that the next line uses, and the call that it makes with them.
 use Rattle.std.proofs.Common.{◌≡◌, ◌++◌, ◌∙◌, ℕ, Bool, true, false, List, [], ◌∷◌, None, map, refl, ap}
-use Rattle.osal_script.specs.declared.app.Line.{Line}
-use Rattle.osal_script.specs.Calls.{call_made}
+use Rattle.osal_line.specs.declared.line.Line.{Line}
+use Rattle.osal_line.specs.Calls.{call_made}
 use Rattle.osal_script.specs.Script.{Pending, Frames, in_body, line_call, put_in}
 use Rattle.osal_script.specs.Handling.{HandlingState, lines_in, pending_in}
 use Rattle.osal_script.specs.Walk.{first_of}

@@ -3,29 +3,31 @@ use Rattle.std.proofs.Common.{◌≡◌, ◌≤◌, ◌+◌, ◌-◌, ◌^◌, �
 use Rattle.std.specs.List.{AllByRecursion, list_all}
 use Rattle.std.proofs.lemmas.Bool.{cond_both, leb-false}
 use Rattle.std.proofs.lemmas.List.{length_push}
-use Rattle.osal_script.specs.declared.app.BodyKind.{BodyKind}
-use Rattle.osal_script.specs.declared.app.BodyKind.TheVariants as kind
-use Rattle.osal_script.specs.declared.app.Item.{Item}
-use Rattle.osal_script.specs.declared.app.Item.TheVariants as item
-use Rattle.osal_script.specs.declared.app.ScriptCall.{ScriptCall}
-use Rattle.osal_script.specs.declared.app.Expect.{Expect}
+use Rattle.osal_line.specs.declared.kind.BodyKind.{BodyKind}
+use Rattle.osal_line.specs.declared.kind.BodyKind.TheVariants as kind
+use Rattle.osal_line.specs.declared.line.ScriptCall.{ScriptCall}
+use Rattle.osal_line.specs.declared.expectation.Expect.{Expect}
+use Rattle.osal_line.specs.declared.grammar.CallWord.{CallWord}
+use Rattle.osal_line.specs.declared.grammar.FirstWord.{FirstWord}
+use Rattle.osal_line.specs.declared.grammar.FirstWord.TheVariants as first
+use Rattle.osal_line.specs.Between.{NamesBetween}
+use Rattle.osal_line.specs.Bare.{IsBare}
+use Rattle.osal_line.specs.Words.{words_of, is_line_byte}
+use Rattle.osal_line.specs.Values.{is_body_name, number_below}
+use Rattle.osal_line.specs.Vocabulary.{first_word}
+use Rattle.osal_line.specs.Registers.{Registers}
+use Rattle.osal_line.specs.Grammar.{call_of_words}
+use Rattle.osal_line.specs.Expectation.{before_arrow, from_arrow, expectation_of}
+use Rattle.osal_line.specs.Handlers.{is_handler, needs_task, may_wait}
+use Rattle.osal_line.proofs.Creations.{IsBetween, MakesWell, call_names}
+use Rattle.osal_line.proofs.Bare.{call_bare}
+use Rattle.osal_script.specs.declared.item.Item.{Item}
+use Rattle.osal_script.specs.declared.item.Item.TheVariants as item
 use Rattle.osal_script.specs.declared.fault.FaultKind.{FaultKind}
-use Rattle.osal_script.specs.declared.grammar.CallWord.{CallWord}
-use Rattle.osal_script.specs.declared.grammar.FirstWord.{FirstWord}
-use Rattle.osal_script.specs.declared.grammar.FirstWord.TheVariants as first
-use Rattle.osal_script.specs.App.{ScriptBody, NamesBetween, ItemNames, NamesLaterFrom, IsBare, ItemIsBare, HandlerIsBare}
-use Rattle.osal_script.specs.Words.{words_of, is_line_byte}
-use Rattle.osal_script.specs.Values.{is_body_name, number_below}
-use Rattle.osal_script.specs.Vocabulary.{first_word}
-use Rattle.osal_script.specs.Registers.{Registers}
-use Rattle.osal_script.specs.Grammar.{call_of_words}
-use Rattle.osal_script.specs.Expectation.{before_arrow, from_arrow, expectation_of}
+use Rattle.osal_script.specs.App.{ScriptBody, ItemNames, NamesLaterFrom, ItemIsBare, HandlerIsBare}
 use Rattle.osal_script.specs.Draft.{OpenBody, Reading, one_of, begun}
-use Rattle.osal_script.specs.Handlers.{is_handler, needs_task, may_wait}
 use Rattle.osal_script.specs.Blocks.{is_taken, with_body, begin_body, read_body, begin_repeat, repeat_in, read_repeat, ends_with_repeat, closed, finished, read_end}
 use Rattle.osal_script.specs.Reading.{join_line, body_after, read_call, read_by_word, is_comment, is_header, read_words, read_line}
-use Rattle.osal_script.proofs.Creations.{IsBetween, MakesWell, call_names}
-use Rattle.osal_script.proofs.Bare.{call_bare}
 
 all_push : (P : Item → Type 0) (items : List Item) (last : Item) → AllByRecursion P items → P last → AllByRecursion P (items ++ last ∷ [])
 all_push P [] last all one = (one, tt)

@@ -1,9 +1,9 @@
 -- One item further, the same lines come, or one less, and fewer steps.
 use Rattle.std.proofs.Common.{◌≡◌, ◌<◌, ◌++◌, ◌∙◌, ℕ, suc, List, [], ◌∷◌, drop, refl, sym, ap, subst, append_assoc, arith}
 use Rattle.std.proofs.lemmas.List.{append-nil}
-use Rattle.osal_script.specs.declared.app.Line.{Line}
-use Rattle.osal_script.specs.declared.app.Item.{Item}
-use Rattle.osal_script.specs.declared.app.Item.TheVariants as item
+use Rattle.osal_line.specs.declared.line.Line.{Line}
+use Rattle.osal_script.specs.declared.item.Item.{Item}
+use Rattle.osal_script.specs.declared.item.Item.TheVariants as item
 use Rattle.osal_script.specs.declared.walk.Turn.{Turn}
 use Rattle.osal_script.specs.App.{times, first_of_levels, levels_of, onto_level, repeated}
 use Rattle.osal_script.specs.Cost.{first_cost, onto_cost}

@@ -8,16 +8,7 @@ pub mod Bodies
 pub mod Dearest
 pub mod Groups
 pub mod Frames
-pub mod Digits
-pub mod Lines
-pub mod Splitting
-pub mod Quotes
-pub mod Naming
-pub mod Arrows
-pub mod Declaring
 pub mod Begun
 pub mod Lookups
-pub mod Creations
-pub mod Bare
 pub mod Later
 pub mod Sound

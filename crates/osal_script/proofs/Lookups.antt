@@ -5,8 +5,12 @@ use Rattle.std.specs.Option.{option_to_list}
 use Rattle.std.proofs.lemmas.Bool.{cond-true, cond-false, le-leb, lt-leb, leb-true, leb-false}
 use Rattle.std.proofs.lemmas.List.{take-append-drop, length-take-le, drop-drop, drop_at}
 use Rattle.std.proofs.lemmas.Option.{cond_some}
-use Rattle.osal_script.specs.declared.app.BodyKind.{BodyKind}
-use Rattle.osal_script.specs.declared.declarations.Declarations.{Declarations}
+use Rattle.osal_line.specs.declared.kind.BodyKind.{BodyKind}
+use Rattle.osal_line.specs.declared.declarations.Declarations.{Declarations}
+use Rattle.osal_line.specs.Words.{words_of, is_line_byte}
+use Rattle.osal_line.specs.Declarations.{Declared, declared_by, declared, is_kind, one_further, last_place, later_number}
+use Rattle.osal_line.specs.Places.{Holds, not_before, number_in}
+use Rattle.osal_line.proofs.Declaring.{by_kind, of_no_kind, none_declared}
 use Rattle.osal_script.specs.declared.fault.FaultKind.{FaultKind}
 use Rattle.osal_script.specs.declared.fault.FaultKind.TheVariants as fault
 use Rattle.osal_script.specs.declared.fault.AppFault.{AppFault}
@@ -15,13 +19,9 @@ use Rattle.osal_script.specs.declared.fault.ParseFault.TheVariants as parse
 use Rattle.osal_script.specs.declared.fault.Stop.{Stop}
 use Rattle.osal_script.specs.declared.fault.Stop.TheVariants as stop
 use Rattle.osal_script.specs.App.{Application}
-use Rattle.osal_script.specs.Words.{words_of, is_line_byte}
-use Rattle.osal_script.specs.Declarations.{Declared, declared_by, declared, is_kind, one_further, last_place, later_number}
-use Rattle.osal_script.specs.Places.{Holds, not_before, number_in}
 use Rattle.osal_script.specs.Draft.{Reading, begun}
 use Rattle.osal_script.specs.Reading.{read_words, read_line, read_lines}
 use Rattle.osal_script.specs.Outcome.{Stops, Refuses, RefusesAt}
-use Rattle.osal_script.proofs.Declaring.{by_kind, of_no_kind, none_declared}
 use Rattle.osal_script.proofs.Begun.{HasBegun, line_begun}
 
 cond_none : (b : Bool) (x : ℕ) → cond b (Some x) None ≡ None → b ≡ false

@@ -6,8 +6,8 @@ use Rattle.std.proofs.lemmas.Bool.{cond_both, cond-true}
 use Rattle.std.proofs.lemmas.Bool.Decides.{nat_tests}
 use Rattle.std.proofs.lemmas.List.{take_more}
 use Rattle.std.proofs.lemmas.Option.{slice_get_within, get_or_from_slice_get}
-use Rattle.osal_script.specs.declared.app.Item.{Item}
-use Rattle.osal_script.specs.declared.app.Item.TheVariants as item
+use Rattle.osal_script.specs.declared.item.Item.{Item}
+use Rattle.osal_script.specs.declared.item.Item.TheVariants as item
 use Rattle.osal_script.specs.Nesting.{depth_behind, depth_after}
 use Rattle.osal_script.specs.Blocks.{is_bare, ends_with_repeat, closed}
 use Rattle.osal_script.proofs.Nesting.{depth_after-push}

@@ -2,18 +2,18 @@
 use Rattle.std.proofs.Common.{◌≡◌, ◌≤◌, ◌<◌, ◌+◌, ◌==◌, ◌||◌, ◌&&◌, ℕ, suc, List, [], ◌∷◌, Bool, true, false, not, Option, Some, None, Result, Ok, Err, length, option_map, is_some, bytes_eq, refl, sym, ap, ◌∙◌, subst, arith, length-append}
 use Rattle.std.specs.Option.{option_to_list}
 use Rattle.std.proofs.lemmas.Bool.{cond_both, cond-false, or_parts, or_from, ne_eqb, not_from_true}
-use Rattle.osal_script.specs.declared.app.BodyKind.{BodyKind}
-use Rattle.osal_script.specs.declared.app.BodyKind.TheVariants as kind
+use Rattle.osal_line.specs.declared.kind.BodyKind.{BodyKind}
+use Rattle.osal_line.specs.declared.kind.BodyKind.TheVariants as kind
+use Rattle.osal_line.specs.Words.{lines_of, words_of}
+use Rattle.osal_line.specs.Declarations.{Declared, declared_by, declared, is_kind, one_further, last_place, later_number}
+use Rattle.osal_line.proofs.Creations.{IsBetween}
 use Rattle.osal_script.specs.declared.fault.FaultKind.{FaultKind}
 use Rattle.osal_script.specs.declared.fault.AppFault.{AppFault}
 use Rattle.osal_script.specs.App.{Application, NamesLaterFrom}
-use Rattle.osal_script.specs.Words.{lines_of, words_of}
-use Rattle.osal_script.specs.Declarations.{Declared, declared_by, declared, is_kind, one_further, last_place, later_number}
 use Rattle.osal_script.specs.Draft.{OpenBody, Reading, unread, one_of, begun}
 use Rattle.osal_script.specs.Reading.{read_line, read_finish, read_lines, reading_of}
 use Rattle.osal_script.specs.Outcome.{IsSound}
 use Rattle.osal_script.proofs.Begun.{HasBegun, line_begun}
-use Rattle.osal_script.proofs.Creations.{IsBetween}
 use Rattle.osal_script.proofs.Later.{FitsBelow, LeavesFit, bodies_later, bodies_bare, line_fits}
 
 further_within : (here : Bool) (found : Option ℕ) (n place : ℕ) → ((p : ℕ) → found ≡ Some p → p < n) → one_further here found ≡ Some place → place < suc n

@@ -1,17 +1,13 @@
 -- An application: what a contract sees of it.
-use Rattle.std.specs.Prelude.{◌≡◌, ◌<◌, ◌+◌, ◌++◌, List, [], ◌∷◌, ℕ, zero, suc, Bool, true, false, length}
+use Rattle.std.specs.Prelude.{◌+◌, ◌++◌, List, [], ◌∷◌, ℕ, zero, suc, length}
 use Rattle.std.specs.List.{AllByRecursion}
-use Rattle.osal_script.specs.declared.app.BodyKind.{BodyKind}
-use Rattle.osal_script.specs.declared.app.BodyKind.TheVariants as kind
-use Rattle.osal_script.specs.declared.app.ScriptCall.{ScriptCall}
-use Rattle.osal_script.specs.declared.app.ScriptCall.TheVariants as script
-use Rattle.osal_script.specs.declared.tasks.TaskCall.{TaskCall}
-use Rattle.osal_script.specs.declared.tasks.TaskCall.TheVariants as task
-use Rattle.osal_script.specs.declared.timebases.TimebaseCall.{TimebaseCall}
-use Rattle.osal_script.specs.declared.timebases.TimebaseCall.TheVariants as timebase
-use Rattle.osal_script.specs.declared.app.Line.{Line}
-use Rattle.osal_script.specs.declared.app.Item.{Item}
-use Rattle.osal_script.specs.declared.app.Item.TheVariants as item
+use Rattle.osal_line.specs.declared.kind.BodyKind.{BodyKind}
+use Rattle.osal_line.specs.declared.kind.BodyKind.TheVariants as kind
+use Rattle.osal_line.specs.declared.line.Line.{Line}
+use Rattle.osal_line.specs.Bare.{IsBare}
+use Rattle.osal_line.specs.Between.{NamesBetween}
+use Rattle.osal_script.specs.declared.item.Item.{Item}
+use Rattle.osal_script.specs.declared.item.Item.TheVariants as item
 
 -- a body: its name, its kind, and its items in the order of their lines
 pub record ScriptBody : Type 0 where
@@ -57,16 +53,6 @@ levels_of (item.End ∷ items) = [] ∷ levels_of items
 abbrev pub lines_of : ScriptBody → List Line
 lines_of body = first_of_levels (levels_of body.items)
 
--- a creation of a task names a body behind a number and below another
-abbrev pub TaskNamesBetween : ℕ → ℕ → TaskCall → Type 0
-TaskNamesBetween number count (task.Create register name body stack priority) = (number < body) × (body < count)
-TaskNamesBetween number count other = Unit {0}
-
--- the same of a line
-abbrev pub NamesBetween : ℕ → ℕ → ScriptCall → Type 0
-NamesBetween number count (script.Task call) = TaskNamesBetween number count call
-NamesBetween number count other = Unit {0}
-
 -- the same of each line among some items
 abbrev pub ItemNames : ℕ → ℕ → Item → Type 0
 ItemNames number count (item.Call line) = NamesBetween number count line.call
@@ -82,27 +68,6 @@ NamesLaterFrom number count (body ∷ bodies) =
 -- each body of an application names later ones alone
 abbrev pub NamesLater : Application → Type 0
 NamesLater app = NamesLaterFrom 0 (length app.bodies) app.bodies
-
--- whether a call on tasks creates one
-abbrev pub is_task_creation : TaskCall → Bool
-is_task_creation (task.Create register name body stack priority) = true
-is_task_creation other = false
-
--- whether a call on timebases is a tick
-abbrev pub is_tick : TimebaseCall → Bool
-is_tick (timebase.Tick id usecs) = true
-is_tick other = false
-
--- whether a line is a tick
-abbrev pub is_tick_line : ScriptCall → Bool
-is_tick_line (script.Timebase call) = is_tick call
-is_tick_line other = false
-
--- a line that neither creates a task nor ticks
-abbrev pub IsBare : ScriptCall → Type 0
-IsBare (script.Task call) = is_task_creation call ≡ false
-IsBare (script.Timebase call) = is_tick call ≡ false
-IsBare other = Unit {0}
 
 -- the same of each line among some items
 abbrev pub ItemIsBare : Item → Type 0

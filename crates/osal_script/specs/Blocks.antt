@@ -2,16 +2,16 @@
 use Rattle.std.specs.Prelude.{◌^◌, ◌+◌, ◌-◌, ◌||◌, ◌&&◌, ◌==◌, ◌++◌, List, [], ◌∷◌, ℕ, Bool, true, false, Option, Some, None, Result, Ok, Err, length, take, slice_get, nat_lt, nat_le, if◌then◌else◌}
 use Rattle.std.specs.List.{list_any}
 use Rattle.std.specs.Str.{bytes_eq}
-use Rattle.osal_script.specs.declared.app.BodyKind.{BodyKind}
-use Rattle.osal_script.specs.declared.app.Item.{Item}
-use Rattle.osal_script.specs.declared.app.Item.TheVariants as item
+use Rattle.osal_line.specs.declared.kind.BodyKind.{BodyKind}
+use Rattle.osal_line.specs.Values.{is_body_name, number_below}
+use Rattle.osal_line.specs.Registers.{no_registers}
+use Rattle.osal_line.specs.Handlers.{is_handler}
+use Rattle.osal_script.specs.declared.item.Item.{Item}
+use Rattle.osal_script.specs.declared.item.Item.TheVariants as item
 use Rattle.osal_script.specs.declared.fault.FaultKind.{FaultKind}
 use Rattle.osal_script.specs.declared.fault.FaultKind.TheVariants as fault
 use Rattle.osal_script.specs.App.{ScriptBody}
-use Rattle.osal_script.specs.Values.{is_body_name, number_below}
-use Rattle.osal_script.specs.Registers.{no_registers}
 use Rattle.osal_script.specs.Draft.{OpenBody, Reading}
-use Rattle.osal_script.specs.Handlers.{is_handler}
 
 -- whether some body has the name
 abbrev pub is_taken : List ScriptBody → List ℕ → Bool

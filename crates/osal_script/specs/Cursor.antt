@@ -4,7 +4,7 @@ use Rattle.osal_base.specs.Reply.{Replied}
 use Rattle.osal_machine.specs.declared.call.Call.{Call}
 use Rattle.osal_machine.specs.declared.call.Call.TheVariants as call
 use Rattle.osal_machine.specs.Call.{said}
-use Rattle.osal_script.specs.declared.app.Line.{Line}
+use Rattle.osal_line.specs.declared.line.Line.{Line}
 use Rattle.osal_script.specs.declared.cursor.Step.{Step}
 use Rattle.osal_script.specs.declared.cursor.Step.TheVariants as step
 use Rattle.osal_script.specs.declared.phase.Phase.{Phase}

@@ -1,9 +1,9 @@
 -- How far a text is read.
 use Rattle.std.specs.Prelude.{◌+◌, List, [], ℕ, Bool, false, Option, Some, None, length}
-use Rattle.osal_script.specs.declared.app.BodyKind.{BodyKind}
-use Rattle.osal_script.specs.declared.app.Item.{Item}
+use Rattle.osal_line.specs.declared.kind.BodyKind.{BodyKind}
+use Rattle.osal_line.specs.Registers.{Registers}
+use Rattle.osal_script.specs.declared.item.Item.{Item}
 use Rattle.osal_script.specs.App.{ScriptBody}
-use Rattle.osal_script.specs.Registers.{Registers}
 
 -- a body whose end is still to come: what runs it, its items, how many they are with those of repeats that are left out, and how
 -- many repeats are open

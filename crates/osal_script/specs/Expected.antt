@@ -1,9 +1,9 @@
 -- What an application expects of the answer of the line with a number.
 use Rattle.std.specs.Prelude.{◌==◌, List, [], ◌∷◌, ℕ, Option, None, if◌then◌else◌}
 use Rattle.std.specs.Option.{option_or}
-use Rattle.osal_script.specs.declared.app.Expect.{Expect}
-use Rattle.osal_script.specs.declared.app.Item.{Item}
-use Rattle.osal_script.specs.declared.app.Item.TheVariants as item
+use Rattle.osal_line.specs.declared.expectation.Expect.{Expect}
+use Rattle.osal_script.specs.declared.item.Item.{Item}
+use Rattle.osal_script.specs.declared.item.Item.TheVariants as item
 use Rattle.osal_script.specs.App.{Application, ScriptBody}
 
 -- the expectation of the call line of that number among some items, where such a line has one

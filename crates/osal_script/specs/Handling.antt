@@ -1,6 +1,6 @@
 -- The handlers of the last tick: what is left of the one that has its turn, and the numbers that wait behind it.
 use Rattle.std.specs.Prelude.{◌++◌, List, [], ℕ, Bool, false, map, if◌then◌else◌}
-use Rattle.osal_script.specs.declared.app.Line.{Line}
+use Rattle.osal_line.specs.declared.line.Line.{Line}
 use Rattle.osal_script.specs.App.{ScriptBody}
 use Rattle.osal_script.specs.Script.{Pending, fresh, in_handler, of_handler, put_in}
 

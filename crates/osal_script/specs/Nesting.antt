@@ -1,8 +1,8 @@
 -- How the repeats of a body nest.
 use Rattle.std.specs.Prelude.{◌≡◌, ◌+◌, ◌-◌, ◌&&◌, List, [], ◌∷◌, ℕ, Option, Some, None, nat_lt, if◌then◌else◌}
 use Rattle.std.specs.Option.{option_and_then}
-use Rattle.osal_script.specs.declared.app.Item.{Item}
-use Rattle.osal_script.specs.declared.app.Item.TheVariants as item
+use Rattle.osal_script.specs.declared.item.Item.{Item}
+use Rattle.osal_script.specs.declared.item.Item.TheVariants as item
 
 -- how many repeats are open behind an item, where so many were open before it; none where a repeat has no turn, where
 -- more than four are open, and where an end has no repeat

@@ -1,7 +1,7 @@
 -- The places to which a walk along the items of a body comes.
 use Rattle.std.specs.Prelude.{◌≡◌, ◌≤◌, ◌<◌, ◌+◌, List, [], ◌∷◌, Some, length, drop}
-use Rattle.osal_script.specs.declared.app.Item.{Item}
-use Rattle.osal_script.specs.declared.app.Item.TheVariants as item
+use Rattle.osal_script.specs.declared.item.Item.{Item}
+use Rattle.osal_script.specs.declared.item.Item.TheVariants as item
 use Rattle.osal_script.specs.declared.walk.Turn.{Turn}
 use Rattle.osal_script.specs.declared.walk.Place.{Place}
 use Rattle.osal_script.specs.App.{levels_of}

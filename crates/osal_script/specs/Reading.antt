@@ -2,26 +2,26 @@
 use Rattle.std.specs.Prelude.{◌==◌, ◌+◌, ◌-◌, ◌||◌, ◌&&◌, ◌++◌, List, [], ◌∷◌, ℕ, Bool, true, false, not, Option, Some, None, Result, Ok, Err, codes, length, nat_lt, nat_le, is_some, if◌then◌else◌}
 use Rattle.std.specs.List.{list_all}
 use Rattle.std.specs.Str.{bytes_eq}
-use Rattle.osal_script.specs.declared.app.BodyKind.{BodyKind}
-use Rattle.osal_script.specs.declared.app.BodyKind.TheVariants as kind
-use Rattle.osal_script.specs.declared.app.Item.TheVariants as item
-use Rattle.osal_script.specs.declared.app.ScriptCall.{ScriptCall}
-use Rattle.osal_script.specs.declared.app.Expect.{Expect}
-use Rattle.osal_script.specs.declared.grammar.CallWord.{CallWord}
-use Rattle.osal_script.specs.declared.grammar.FirstWord.{FirstWord}
-use Rattle.osal_script.specs.declared.grammar.FirstWord.TheVariants as first
+use Rattle.osal_line.specs.declared.kind.BodyKind.{BodyKind}
+use Rattle.osal_line.specs.declared.kind.BodyKind.TheVariants as kind
+use Rattle.osal_line.specs.declared.line.ScriptCall.{ScriptCall}
+use Rattle.osal_line.specs.declared.expectation.Expect.{Expect}
+use Rattle.osal_line.specs.declared.grammar.CallWord.{CallWord}
+use Rattle.osal_line.specs.declared.grammar.FirstWord.{FirstWord}
+use Rattle.osal_line.specs.declared.grammar.FirstWord.TheVariants as first
+use Rattle.osal_line.specs.Words.{lines_of, words_of, is_line_byte}
+use Rattle.osal_line.specs.Vocabulary.{first_word}
+use Rattle.osal_line.specs.Declarations.{declared, later_number}
+use Rattle.osal_line.specs.Registers.{Registers}
+use Rattle.osal_line.specs.Grammar.{call_of_words}
+use Rattle.osal_line.specs.Expectation.{before_arrow, from_arrow, expectation_of}
+use Rattle.osal_line.specs.Handlers.{is_handler, needs_task, may_wait}
+use Rattle.osal_script.specs.declared.item.Item.TheVariants as item
 use Rattle.osal_script.specs.declared.fault.FaultKind.{FaultKind}
 use Rattle.osal_script.specs.declared.fault.FaultKind.TheVariants as fault
 use Rattle.osal_script.specs.declared.fault.AppFault.{AppFault}
 use Rattle.osal_script.specs.App.{Application}
-use Rattle.osal_script.specs.Words.{lines_of, words_of, is_line_byte}
-use Rattle.osal_script.specs.Vocabulary.{first_word}
-use Rattle.osal_script.specs.Declarations.{declared, later_number}
-use Rattle.osal_script.specs.Registers.{Registers}
-use Rattle.osal_script.specs.Grammar.{call_of_words}
-use Rattle.osal_script.specs.Expectation.{before_arrow, from_arrow, expectation_of}
 use Rattle.osal_script.specs.Draft.{OpenBody, Reading, unread, begun}
-use Rattle.osal_script.specs.Handlers.{is_handler, needs_task, may_wait}
 use Rattle.osal_script.specs.Blocks.{with_body, read_body, read_repeat, read_end}
 
 -- the body with one more call line

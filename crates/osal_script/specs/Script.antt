@@ -1,5 +1,5 @@
 -- What a script calls: the lines in their order, each behind a checkpoint, and then the exit.
-use Rattle.std.specs.Prelude.{◌≡◌, ◌⊎◌, ◌%◌, ◌^◌, ◌++◌, ◌&&◌, List, [], ◌∷◌, ℕ, zero, suc, Bool, Option, Some, None, true, false, map, length, take, drop, nat_lt, replicate, slice_get, slice_set, if◌then◌else◌}
+use Rattle.std.specs.Prelude.{◌≡◌, ◌⊎◌, ◌++◌, ◌&&◌, List, [], ◌∷◌, ℕ, zero, suc, Bool, Option, Some, None, true, false, map, length, take, drop, nat_lt, replicate, slice_get, if◌then◌else◌}
 use Rattle.std.specs.Int.{from_be_bytes, w32}
 use Rattle.osal_base.specs.declared.reply.Answer.{Answer}
 use Rattle.osal_base.specs.declared.reply.Answer.TheVariants as answer
@@ -10,17 +10,17 @@ use Rattle.osal_machine.specs.declared.call.Call.TheVariants as call
 use Rattle.osal_machine.specs.declared.call.Entry.{Entry}
 use Rattle.osal_machine.specs.Call.{said, part_of}
 use Rattle.osal_time.specs.Timebase.{timer_limit}
-use Rattle.osal_script.specs.declared.app.BodyKind.{BodyKind}
-use Rattle.osal_script.specs.declared.app.BodyKind.TheVariants as kind
-use Rattle.osal_script.specs.declared.app.ScriptCall.{ScriptCall}
-use Rattle.osal_script.specs.declared.app.ScriptCall.TheVariants as script
-use Rattle.osal_script.specs.declared.tasks.TaskCall.{TaskCall}
-use Rattle.osal_script.specs.declared.tasks.TaskCall.TheVariants as task
-use Rattle.osal_script.specs.declared.app.Line.{Line}
+use Rattle.osal_line.specs.declared.kind.BodyKind.{BodyKind}
+use Rattle.osal_line.specs.declared.kind.BodyKind.TheVariants as kind
+use Rattle.osal_line.specs.declared.line.Line.{Line}
+use Rattle.osal_line.specs.declared.line.ScriptCall.{ScriptCall}
+use Rattle.osal_line.specs.Bare.{is_tick_line}
+use Rattle.osal_line.specs.Calls.{call_of, register_of}
+use Rattle.osal_line.specs.Exit.{is_exit_line}
+use Rattle.osal_line.specs.Held.{registers_after}
 use Rattle.osal_script.specs.declared.phase.Phase.{Phase}
 use Rattle.osal_script.specs.declared.phase.Phase.TheVariants as phase
-use Rattle.osal_script.specs.App.{ScriptBody, lines_of, is_tick_line}
-use Rattle.osal_script.specs.Calls.{call_of, register_of}
+use Rattle.osal_script.specs.App.{ScriptBody, lines_of}
 
 -- whose registers a line uses: its body's; or a handler's, which are new with the handler's first line
 pub data Frame : Type 0 where
@@ -127,22 +127,6 @@ fired bodies next reply =
     if is_of_body next.frame && is_tick_line next.line.call && is_success reply.answer
     then put_in bodies (handler_numbers timer_limit reply.bytes)
     else []
-
--- the registers after a reply; an identifier is the number of a reply, in 32 bits
-abbrev pub registers_after : Option ℕ → Replied → List ℕ → List ℕ
-registers_after None reply registers = registers
-registers_after (Some register) reply registers =
-    if is_success reply.answer then slice_set registers register (reply.number % 2 ^ 32) else registers
-
--- whether a call on a task is the exit
-abbrev pub is_task_exit : TaskCall → Bool
-is_task_exit task.Exit = true
-is_task_exit other = false
-
--- whether a line is the exit
-abbrev pub is_exit_line : ScriptCall → Bool
-is_exit_line (script.Task made) = is_task_exit made
-is_exit_line other = false
 
 -- what comes after a line: nothing after an exit that succeeded, else the next checkpoint
 abbrev pub phase_after_line : ScriptCall → Answer → Phase

@@ -1,7 +1,7 @@
 -- How many steps a walk along a body's items has: one for each item, and one for each turn's end.
 use Rattle.std.specs.Prelude.{◌+◌, ◌*◌, List, [], ◌∷◌, ℕ, drop}
-use Rattle.osal_script.specs.declared.app.Item.{Item}
-use Rattle.osal_script.specs.declared.app.Item.TheVariants as item
+use Rattle.osal_script.specs.declared.item.Item.{Item}
+use Rattle.osal_script.specs.declared.item.Item.TheVariants as item
 use Rattle.osal_script.specs.declared.walk.Turn.{Turn}
 use Rattle.osal_script.specs.declared.walk.Place.{Place}
 use Rattle.osal_script.specs.Cost.{first_cost, onto_cost}

@@ -1,7 +1,7 @@
 -- A walk along the items of a body: the call lines that are still to come at a place.
 use Rattle.std.specs.Prelude.{◌++◌, List, [], ◌∷◌, Option, Some, None, take, drop, reverse}
-use Rattle.osal_script.specs.declared.app.Line.{Line}
-use Rattle.osal_script.specs.declared.app.Item.{Item}
+use Rattle.osal_line.specs.declared.line.Line.{Line}
+use Rattle.osal_script.specs.declared.item.Item.{Item}
 use Rattle.osal_script.specs.declared.walk.Turn.{Turn}
 use Rattle.osal_script.specs.declared.walk.Place.{Place}
 use Rattle.osal_script.specs.App.{times, first_of_levels, levels_of}

@@ -5,11 +5,9 @@ ghost use Rattle.osal_script.specs.Outcome.{Gives};
 
 use crate::draft::{Draft, DraftBody};
 use crate::fault::Stop;
-use crate::handlers::is_handler;
-use crate::registers::Registers;
-use crate::values::{is_body_name, number_of};
-use crate::{Body, BodyKind, FaultKind, Item};
+use crate::{Body, FaultKind, Item};
 use osal_base::{Name, OutOfMemory};
+use osal_line::{BodyKind, Registers, is_body_name, is_handler, number_of};
 use std::alloc::Global;
 
 /// A line `task` or `handler`, which begins a body of that kind.

@@ -3,8 +3,9 @@ ghost use Rattle.std.specs.Prelude.{◌≡◌, ◌<◌, ◌≤◌, Some, length,
 ghost use Rattle.osal_script.specs.App.{NamesLater, HandlersAreBare};
 ghost use Rattle.osal_script.specs.Nesting.{IsNested};
 
-use crate::{BodyKind, Item};
+use crate::Item;
 use osal_base::Name;
+use osal_line::BodyKind;
 use std::marker::Model;
 
 /// A named script.

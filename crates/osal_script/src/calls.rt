@@ -1,20 +1,20 @@
 //! The call lines of a body.
 ghost use Rattle.std.specs.Prelude.{◌≡◌, ◌<◌, ◌+◌, ◌++◌, ◌&&◌, ◌||◌, [], ◌∷◌, map, nat_le, option_map, IfOk};
-ghost use Rattle.osal_script.specs.declared.app.Item.TheVariants as item;
-ghost use Rattle.osal_script.specs.Places.{number_in};
+ghost use Rattle.osal_line.specs.Places.{number_in};
+ghost use Rattle.osal_line.specs.Handlers as handlers;
+ghost use Rattle.osal_script.specs.declared.item.Item.TheVariants as item;
 ghost use Rattle.osal_script.specs.Draft.{begun};
-ghost use Rattle.osal_script.specs.Handlers as handlers;
 ghost use Rattle.osal_script.specs.Reading as reading;
 ghost use Rattle.osal_script.specs.Outcome.{Gives};
 
-use crate::declarations::Declarations;
 use crate::draft::{Draft, DraftBody};
-use crate::expectation::{arrow_place, expectation_of};
 use crate::fault::Stop;
-use crate::grammar::{CallWord, call_of_words};
-use crate::handlers::{is_handler, may_wait, needs_task};
-use crate::{BodyKind, Expect, FaultKind, Item, Line, ScriptCall};
+use crate::{FaultKind, Item};
 use osal_base::OutOfMemory;
+use osal_line::{
+    BodyKind, CallWord, Declarations, Expect, Line, ScriptCall, arrow_place, call_of_words,
+    expectation_of, is_handler, may_wait, needs_task,
+};
 use std::alloc::Global;
 
 /// What a call line makes of its body, behind so many bodies that have begun.

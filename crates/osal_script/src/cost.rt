@@ -1,13 +1,15 @@
 //! What an application costs: a bound on the entries of its runs.
-ghost use Rattle.std.specs.Prelude.{◌≡◌, ◌<◌, ◌-◌, ◌^◌, [], ◌∷◌, length, min, replicate, slice_index};
+ghost use Rattle.std.specs.Prelude.{◌≡◌, ◌<◌, ◌-◌, ◌^◌, [], ◌∷◌, length, min};
+ghost use Rattle.osal_line.specs.Saturated.{saturated, prices_of};
 ghost use Rattle.osal_script.specs.Cost as cost;
 ghost use Rattle.osal_script.specs.Cost.{cost_of, first_cost, greatest_handler, level_costs};
 ghost use Rattle.osal_script.specs.Nesting.{IsNested};
-ghost use Rattle.osal_script.specs.Saturated.{saturated, onto_saturated, repeated_saturated, prices_of};
+ghost use Rattle.osal_script.specs.Saturated.{onto_saturated, repeated_saturated};
 
 use crate::handling::TIMER_LIMIT;
-use crate::{App, Body, BodyKind, Item, ScriptCall};
-use osal_base::{Limits, Timeout};
+use crate::{App, Body, Item};
+use osal_base::Limits;
+use osal_line::{BodyKind, Prices, line_cost};
 use std::marker::Model;
 
 /// The costs of the levels that are open at an item, the innermost last.
@@ -74,42 +76,6 @@ impl Levels {
     }
 }
 
-/// What brings other lines about: the body of each number, and the handlers of a tick.
-#[derive(Drop)]
-pub(crate) struct Prices {
-    bodies: [u64; 64],
-    tick: u64,
-}
-
-impl Prices {
-    /// Bodies cost nothing, and a tick so much.
-    fn of_tick(tick: u64) -> Prices
-        ensures { result ≡ record { bodies = replicate 64 0; tick = tick } }
-    {
-        Prices {
-            bodies: [0; 64],
-            tick,
-        }
-    }
-
-    /// The cost of the body of that number; one that is not there costs nothing.
-    pub(crate) fn body(&self, number: u32) -> u64
-        ensures { result ≡ slice_index self.now.bodies number }
-    {
-        match self.bodies.get(number as usize) {
-            Some(cost) => *cost,
-            None => 0,
-        }
-    }
-
-    /// What the handlers of a tick cost.
-    pub(crate) fn tick(&self) -> u64
-        ensures { result ≡ self.now.tick }
-    {
-        self.tick
-    }
-}
-
 impl App {
     /// A bound on the entries of a run of the application, or the greatest number where the bound is above it.
     pub fn cost(&self) -> u64
@@ -173,39 +139,4 @@ fn items_cost(prices: &Prices, items: &[Item]) -> u64
         }
     }
     levels.outermost()
-}
-
-/// The cost of a line.
-fn line_cost(prices: &Prices, call: &ScriptCall) -> u64
-    ensures { result ≡ saturated (cost.line_cost (prices_of prices.now) call.now) }
-{
-    more_cost(prices, call).saturating_add(2)
-}
-
-/// What a line costs beside its checkpoint and its call.
-fn more_cost(prices: &Prices, call: &ScriptCall) -> u64
-    ensures { result ≡ saturated (cost.more_cost (prices_of prices.now) call.now) }
-{
-    match call {
-        ScriptCall::Task(call) => call.cost(prices),
-        ScriptCall::Queue(call) => call.cost(),
-        ScriptCall::CountSem(call) => call.cost(),
-        ScriptCall::BinSem(call) => call.cost(),
-        ScriptCall::Mutex(call) => call.cost(),
-        ScriptCall::Condvar(call) => call.cost(),
-        ScriptCall::Timebase(call) => call.cost(prices),
-        ScriptCall::Timer(_) | ScriptCall::Hold { .. } | ScriptCall::Release { .. } => 0,
-    }
-}
-
-/// What a line that may wait costs more: its end, and where it has a deadline the advance that reaches it.
-pub(crate) fn wait_cost(wait: Timeout) -> u64
-    ensures value { result ≡ cost.wait_cost wait }
-    ensures few { result < 3 }
-{
-    match wait {
-        Timeout::Check => 0,
-        Timeout::Pend => 1,
-        Timeout::Ms(ms) => { if ms == 0 { 0 } else { 2 } }
-    }
 }

@@ -8,10 +8,10 @@ ghost use Rattle.osal_script.specs.Script.{start_of, after, after_answer};
 ghost use Rattle.osal_script.specs.Cursor.{moved, first_line, first_frame, line_number, IsStep};
 
 use crate::handling::Handling;
-use crate::line::{call_made, part_made, set_register};
 use crate::walk::Walk;
-use crate::{App, Body, Line, Phase, ScriptCall, TaskCall};
+use crate::{App, Body, Phase};
 use osal_base::{Answer, OutOfMemory, Reply};
+use osal_line::{Line, ScriptCall, TaskCall, call_made, part_made, set_register};
 use osal_machine::{Call, part_of};
 use std::alloc::Global;
 use std::marker::Model;

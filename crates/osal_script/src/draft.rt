@@ -2,9 +2,9 @@
 ghost use Rattle.std.specs.Prelude.{◌≡◌};
 ghost use Rattle.osal_script.specs.Draft as draft;
 
-use crate::registers::Registers;
-use crate::{Body, BodyKind, Item};
+use crate::{Body, Item};
 use osal_base::Name;
+use osal_line::{BodyKind, Registers};
 use std::alloc::Global;
 use std::marker::Model;
 

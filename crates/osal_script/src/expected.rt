@@ -3,7 +3,8 @@ ghost use Rattle.std.specs.Prelude.{◌≡◌, option_copied};
 ghost use Rattle.osal_script.specs.Expected as expected;
 ghost use Rattle.osal_script.specs.Expected.{expected_of};
 
-use crate::{App, Expect, Item};
+use crate::{App, Item};
+use osal_line::Expect;
 
 impl App {
     /// The expectation of the call line of that number, if it has one. It looks through all lines.

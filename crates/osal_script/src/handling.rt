@@ -2,17 +2,18 @@
 ghost use Rattle.std.specs.Prelude.{◌≡◌, ◌+◌, ◌<◌, ◌≤◌, ◌++◌, [], ◌∷◌, length, option_copied, slice_get, drop};
 ghost use Rattle.std.specs.Int.{from_be_bytes, w32};
 ghost use Rattle.osal_base.specs.Reply.{reply_of};
-ghost use Rattle.osal_script.specs.Calls.{register_of};
+ghost use Rattle.osal_line.specs.Calls.{register_of};
+ghost use Rattle.osal_line.specs.Held.{registers_after};
 ghost use Rattle.osal_script.specs.Script as script;
 ghost use Rattle.osal_script.specs.Script.{group_number, handler_lines, handler_numbers, in_body, put_in};
 ghost use Rattle.osal_time.specs.Timebase.{timer_limit};
 ghost use Rattle.osal_script.specs.Handling.{no_handlers, pending_in, registers_in};
 ghost use Rattle.osal_script.specs.Walk.{first_of};
 
-use crate::line::set_register;
+use crate::App;
 use crate::walk::Walk;
-use crate::{App, BodyKind, Line, ScriptCall};
 use osal_base::{Answer, Reply};
+use osal_line::{BodyKind, Line, ScriptCall, set_register};
 use std::marker::Model;
 
 /// The most timers that fire in a tick.
@@ -134,7 +135,7 @@ impl<'a> Handling<'a> {
     pub fn pass(&mut self, call: &ScriptCall, reply: &Reply)
         ensures pending { pending_in self.new ≡ drop 1 (pending_in self.old) }
         ensures registers { self.new.registers
-            ≡ script.registers_after (register_of call.now) (reply_of reply.now) (registers_in self.old) }
+            ≡ registers_after (register_of call.now) (reply_of reply.now) (registers_in self.old) }
         ensures bodies { self.new.bodies ≡ self.old.bodies }
     {
         let mut registers = self.frame();

@@ -4,12 +4,11 @@ ghost use Rattle.osal_script.specs.App.{Application};
 ghost use Rattle.osal_script.specs.Reading as reading;
 ghost use Rattle.osal_script.specs.Outcome.{ParsesAs, RefusesAt, IsSound};
 
-use crate::declarations::Declarations;
 use crate::draft::Draft;
 use crate::fault::Stop;
 use crate::reading::read_line;
-use crate::words::next_line;
 use crate::{App, AppFault, FaultKind, ParseFault};
+use osal_line::{Declarations, next_line};
 use std::alloc::Global;
 
 /// The end of the text, whose line would have that number.

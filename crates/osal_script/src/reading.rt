@@ -1,19 +1,16 @@
 //! The lines of an application's text.
 ghost use Rattle.std.specs.Prelude.{◌≡◌, [], ◌∷◌, map, true};
-ghost use Rattle.osal_script.specs.Places.{number_in};
+ghost use Rattle.osal_line.specs.Places.{number_in};
 ghost use Rattle.osal_script.specs.Draft.{begun};
 ghost use Rattle.osal_script.specs.Reading as reading;
 ghost use Rattle.osal_script.specs.Outcome.{Gives};
 
+use crate::FaultKind;
 use crate::blocks::{read_body, read_end, read_repeat};
 use crate::calls::read_call;
-use crate::declarations::Declarations;
 use crate::draft::Draft;
 use crate::fault::Stop;
-use crate::grammar::FirstWord;
-use crate::vocabulary::first_word;
-use crate::words::{is_line, words_of};
-use crate::{BodyKind, FaultKind};
+use osal_line::{BodyKind, Declarations, FirstWord, first_word, is_line, words_of};
 use std::alloc::Global;
 
 fn is_comment(word: &[u8]) -> bool

@@ -1,12 +1,13 @@
 //! A walk along the call lines of a body, with every repeat written out.
 ghost use Rattle.std.specs.Prelude.{◌≡◌, slice_get, option_copied, Some};
-ghost use Rattle.osal_script.specs.declared.app.Item.TheVariants as item;
+ghost use Rattle.osal_script.specs.declared.item.Item.TheVariants as item;
 ghost use Rattle.osal_script.specs.App.{first_of_levels, levels_of};
 ghost use Rattle.osal_script.specs.Nesting.{IsNested};
 ghost use Rattle.osal_script.specs.Walk.{lines_at, first_of, behind_first};
 ghost use Rattle.osal_script.specs.Place.{IsPlace, IsSettled, IsPassed};
 
-use crate::{Item, Line};
+use crate::Item;
+use osal_line::Line;
 use std::marker::Model;
 
 /// A repeat that is open: where its items start, and how many turns come behind this one.
@@ -33,7 +34,7 @@ pub(crate) struct Walk<'a> {
 
 impl<'a> Model for Walk<'a> {
     ghost use Rattle.std.specs.Prelude.{List};
-    ghost use Rattle.osal_script.specs.declared.app.Line.{Line};
+    ghost use Rattle.osal_line.specs.declared.line.Line.{Line};
     ghost use Rattle.osal_script.specs.Walk.{lines_at};
     ghost use Rattle.osal_script.specs.Place.{IsSettled};
 

@@ -1,5 +1,5 @@
 use Rattle.std.proofs.Common.{◌∙◌, sym}
-use Rattle.osal_script.proofs.Naming.{body_without_fault}
+use Rattle.osal_line.proofs.Naming.{body_without_fault}
 use Rattle.osal_script.proofs.blocks.begin_body.Goals as goal
 
 pub returns : goal.returns

@@ -1,6 +1,7 @@
 use Rattle.std.proofs.Common.{◌≡◌, ◌+◌, ◌-◌, ◌∙◌, ℕ, Some, length, drop, sym, ap, map, arith}
-use Rattle.osal_script.specs.declared.app.Item.TheVariants as item
-use Rattle.osal_script.specs.Saturated.{saturated, repeated_saturated, prices_of}
+use Rattle.osal_line.specs.Saturated.{saturated, prices_of}
+use Rattle.osal_script.specs.declared.item.Item.TheVariants as item
+use Rattle.osal_script.specs.Saturated.{repeated_saturated}
 use Rattle.osal_script.specs.Cost.{level_costs}
 use Rattle.osal_script.specs.Nesting.{depth_after}
 use Rattle.osal_script.proofs.Nesting.{repeat_nested, end_nested}

@@ -1,6 +1,6 @@
 use Rattle.std.proofs.Common.{◌≡◌, ◌≤◌, length, drop, map}
+use Rattle.osal_line.specs.Saturated.{saturated, prices_of}
 use Rattle.osal_script.specs.Cost.{level_costs}
-use Rattle.osal_script.specs.Saturated.{saturated, prices_of}
 use Rattle.osal_script.proofs.cost.items_cost.Given as goal
 
 abbrev pub invariant-loop-at : goal.invariant-loop-at

@@ -1,7 +1,7 @@
 use Rattle.std.proofs.Common.{List, ℕ, Ok, refl, ap, sym, ◌∙◌, arith}
-use Rattle.osal_script.specs.Words.{lines_of}
-use Rattle.osal_script.specs.Declarations.{Declared, declared}
-use Rattle.osal_script.specs.Places.{number_in}
+use Rattle.osal_line.specs.Words.{lines_of}
+use Rattle.osal_line.specs.Declarations.{Declared, declared}
+use Rattle.osal_line.specs.Places.{number_in}
 use Rattle.osal_script.specs.Draft.{begun}
 use Rattle.osal_script.specs.Reading as reading
 use Rattle.osal_script.proofs.Lookups.{bodies_behind, read_on, refused_at}

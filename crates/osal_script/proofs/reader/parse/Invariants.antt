@@ -1,6 +1,6 @@
 use Rattle.std.proofs.Common.{◌≡◌, ◌≤◌, ◌+◌, length, drop, Ok}
-use Rattle.osal_script.specs.Words.{lines_of}
-use Rattle.osal_script.specs.Declarations.{declared}
+use Rattle.osal_line.specs.Words.{lines_of}
+use Rattle.osal_line.specs.Declarations.{declared}
 use Rattle.osal_script.specs.Draft.{begun}
 use Rattle.osal_script.specs.Reading.{read_lines, reading_of}
 use Rattle.osal_script.proofs.reader.parse.Given as goal

@@ -1,5 +1,5 @@
 use Rattle.std.proofs.Common.{◌∙◌, sym, ap}
-use Rattle.osal_script.specs.declared.app.Item.TheVariants as item
+use Rattle.osal_script.specs.declared.item.Item.TheVariants as item
 use Rattle.osal_script.specs.Walk.{behind_first}
 use Rattle.osal_script.proofs.Passing.{found_at, call_first, call_behind}
 use Rattle.osal_script.proofs.walk.place_behind.Goals as goal

@@ -1,6 +1,6 @@
 use Rattle.std.proofs.Common.{◌≡◌, ◌+◌, ◌∙◌, ℕ, List, Option, Some, None, drop, slice_get, sym, ap}
 use Rattle.std.specs.Option.{option_or}
-use Rattle.osal_script.specs.declared.app.Expect.{Expect}
+use Rattle.osal_line.specs.declared.expectation.Expect.{Expect}
 use Rattle.osal_script.specs.App.{ScriptBody}
 use Rattle.osal_script.specs.Expected.{expected_in, expected_among}
 use Rattle.osal_script.proofs.Lists.{begins_with}

@@ -1,0 +1,140 @@
+//! The words with which a line may begin.
+ghost use Rattle.std.specs.Prelude.{◌≡◌};
+ghost use Rattle.std.specs.List.{list_any};
+ghost use Rattle.std.specs.Str.{bytes_eq};
+ghost use Rattle.osal_line.specs.Vocabulary as vocabulary;
+
+use crate::binary::bin_sem_word;
+use crate::condvars::condvar_word;
+use crate::counting::count_sem_word;
+use crate::grammar::{CallWord, FirstWord};
+use crate::mutexes::mutex_word;
+use crate::queues::queue_word;
+use crate::tasks::task_word;
+use crate::timebases::timebase_word;
+use crate::timers::timer_word;
+
+/// The words whose lines are not read yet.
+const UNBUILT: [&str; 33] = [
+    "mkfs",
+    "mount",
+    "unmount",
+    "rmfs",
+    "stat_volume",
+    "open",
+    "read",
+    "write",
+    "lseek",
+    "close",
+    "remove",
+    "rename",
+    "cp",
+    "stat",
+    "mkdir",
+    "rmdir",
+    "dir_open",
+    "dir_read",
+    "dir_rewind",
+    "dir_close",
+    "socket_open",
+    "socket_bind",
+    "socket_listen",
+    "socket_connect",
+    "socket_accept",
+    "socket_send",
+    "socket_recv",
+    "socket_shutdown",
+    "select_one",
+    "select_multi",
+    "console_write",
+    "console_enable",
+    "console_disable",
+];
+
+/// What a line's first word says that the line is.
+pub fn first_word(text: &[u8]) -> Option<FirstWord>
+    ensures { result ≡ vocabulary.first_word text.now }
+{
+    if text == b"osal-app".as_slice() {
+        return Some(FirstWord::Header);
+    }
+    if text == b"task".as_slice() {
+        return Some(FirstWord::Task);
+    }
+    if text == b"handler".as_slice() {
+        return Some(FirstWord::Handler);
+    }
+    if text == b"repeat".as_slice() {
+        return Some(FirstWord::Repeat);
+    }
+    if text == b"end".as_slice() {
+        return Some(FirstWord::End);
+    }
+    match call_word(text) {
+        Some(call) => Some(FirstWord::Call(call)),
+        None => unbuilt_word(text),
+    }
+}
+
+/// The call that a word names.
+fn call_word(text: &[u8]) -> Option<CallWord>
+    ensures { result ≡ vocabulary.call_word text.now }
+{
+    if text == b"hold".as_slice() {
+        return Some(CallWord::Hold);
+    }
+    if text == b"release".as_slice() {
+        return Some(CallWord::Release);
+    }
+    object_word(text)
+}
+
+/// The call on some kind of object that a word names.
+fn object_word(text: &[u8]) -> Option<CallWord>
+    ensures { result ≡ vocabulary.object_word text.now }
+{
+    if let Some(call) = task_word(text) {
+        return Some(CallWord::Task(call));
+    }
+    if let Some(call) = queue_word(text) {
+        return Some(CallWord::Queue(call));
+    }
+    if let Some(call) = count_sem_word(text) {
+        return Some(CallWord::CountSem(call));
+    }
+    if let Some(call) = bin_sem_word(text) {
+        return Some(CallWord::BinSem(call));
+    }
+    if let Some(call) = mutex_word(text) {
+        return Some(CallWord::Mutex(call));
+    }
+    if let Some(call) = condvar_word(text) {
+        return Some(CallWord::Condvar(call));
+    }
+    if let Some(call) = timebase_word(text) {
+        return Some(CallWord::Timebase(call));
+    }
+    Some(CallWord::Timer(timer_word(text)?))
+}
+
+fn unbuilt_word(text: &[u8]) -> Option<FirstWord>
+    ensures { result ≡ vocabulary.unbuilt_word text.now }
+{
+    if is_unbuilt(text) {
+        Some(FirstWord::Unbuilt)
+    } else {
+        None
+    }
+}
+
+fn is_unbuilt(text: &[u8]) -> bool
+    ensures { result ≡ list_any (λ other. bytes_eq text.now other) vocabulary.unbuilt_words }
+{
+    is_among(&UNBUILT, text)
+}
+
+fn is_among(words: &[&str], text: &[u8]) -> bool
+    ensures { result ≡ list_any (λ other. bytes_eq text.now other.now) words.now }
+{
+    words.iter().any(|other| text == other.as_bytes())
+}

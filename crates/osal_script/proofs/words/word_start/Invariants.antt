@@ -1,6 +1,0 @@
-use Rattle.std.proofs.Common.{◌≡◌, drop}
-use Rattle.osal_script.specs.Words.{words_of}
-use Rattle.osal_script.proofs.words.word_start.Given as goal
-
-abbrev pub invariant-loop-i : goal.invariant-loop-i
-invariant-loop-i l = words_of l.line ≡ words_of (drop l.i l.line)
