@@ -45,17 +45,17 @@ module _ {T : Type 0} (P : ℕ → T → Type 0) where
   each_replaced table id object (Some active) is others here =
       each_written table.active id (record active { object = object }) others here
 
-  each_removed : (objects : map.FinMap nat_cmp (Active T)) (id : ℕ) → Each objects → Each (map.remove objects id)
-  each_removed objects id all other object is =
+  each_removed : (objects : map.FinMap nat_cmp (Active T)) (id : ℕ) → EachOther id objects → Each (map.remove objects id)
+  each_removed objects id others other object is =
       elim (cases_eq other id) [
         | inl same ↦
             let found : None ≡ Some object = sym (ap (λ k. object_of (map.get (map.remove objects id) k)) same ∙ ap object_of (gone_here objects id)) ∙ is in cc
-        | inr ne ↦ all other object (sym (ap object_of (gone_there objects id other ne)) ∙ is)
+        | inr ne ↦ others other object ne (sym (ap object_of (gone_there objects id other ne)) ∙ is)
       ]
 
   each_taken : (table : TableState T) (id : ℕ) (r : Result T IdFault) → Each table.active → Each (take_out table id r).1.active
   each_taken table id (Err fault) all = all
-  each_taken table id (Ok object) all = each_removed table.active id all
+  each_taken table id (Ok object) all = each_removed table.active id (λ other old ne. all other old)
 
   each_settled : (table : TableState T) (id : ℕ) (name : Option (Option (List ℕ))) (object : T) → Each table.active → P id object → Each (settle table id name (Some object)).active
   each_settled table id None object all here = all
@@ -74,12 +74,21 @@ module _ {T : Type 0} (P : ℕ → T → Type 0) where
     pub each_delete : (id : ℕ) → Each objects.table.active → Each (delete_step objects id).1.table.active
     each_delete id = each_taken objects.table id (unheld (active_at objects.table id))
 
-    each_created : (name : List ℕ) (object : T) (r : Result Reserved ReserveFault) → Each objects.table.active → ((id : ℕ) → P id object) → Each (created objects object r (reserve_step objects.table (Some name)).1).1.table.active
-    each_created name object (Err fault) all here = all
-    each_created name object (Ok reserved) all here =
+    -- a removal of what nobody holds, where it holds of the others
+    pub each_left : (id : ℕ) (object : T) → unheld (active_at objects.table id) ≡ Ok object → EachOther id objects.table.active → Each (delete_step objects id).1.table.active
+    each_left id object is others =
+        subst (λ r. Each (take_out objects.table id r).1.active) (sym is) (each_removed objects.table.active id others)
+
+    -- a new object under the identifier that was reserved for it
+    pub each_made : (name : List ℕ) (object : T) (reserved : Reserved) → Each objects.table.active → P reserved.id object → Each (created objects object (Ok reserved) (reserve_step objects.table (Some name)).1).1.table.active
+    each_made name object reserved all here =
         let table = (reserve_step objects.table (Some name)).1 in
         each_settled table reserved.id (map.get table.reserved reserved.id) object
-        (subst Each (sym (reserve_active objects.table (Some name))) all) (here reserved.id)
+        (subst Each (sym (reserve_active objects.table (Some name))) all) here
+
+    each_created : (name : List ℕ) (object : T) (r : Result Reserved ReserveFault) → Each objects.table.active → ((id : ℕ) → P id object) → Each (created objects object r (reserve_step objects.table (Some name)).1).1.table.active
+    each_created name object (Err fault) all here = all
+    each_created name object (Ok reserved) all here = each_made name object reserved all (here reserved.id)
 
     -- a new object
     pub each_create : (name : List ℕ) (object : T) → Each objects.table.active → ((id : ℕ) → P id object) → Each (create_step objects name object).1.table.active

@@ -1,9 +1,9 @@
 -- No more timers fire in a tick than one timebase may have, nor than there may be.
-use Rattle.std.proofs.Common.{◌≡◌, ◌<◌, ◌≤◌, ◌==◌, ◌||◌, ℕ, true, false, List, [], ◌∷◌, length, map, Option, Some, None, eqb, refl, sym, ap, arith}
+use Rattle.std.proofs.Common.{◌≡◌, ◌<◌, ◌≤◌, ◌==◌, ◌||◌, ℕ, true, false, List, [], ◌∷◌, length, map, Option, Some, None, eqb, nat_eq, refl, ap, arith}
 use Rattle.std.specs.FinMap as finite_map
 use Rattle.std.specs.List.{AllByRecursion, IsDistinct, list_any}
 use Rattle.std.proofs.Math.Nat.{le-min, mod-lt}
-use Rattle.std.proofs.lemmas.Bool.{both_ways, cond_both, eq-eqb, eqb-true, or_parts}
+use Rattle.std.proofs.lemmas.Bool.{both_ways, cond_both, eq-eqb, eqb-true}
 use Rattle.std.proofs.lemmas.List.{length-append, length-map}
 use Rattle.std.proofs.lemmas.Map.Steps.{length-le_from_distinct_below}
 use Rattle.osal_base.specs.Identifier.{serial_of, slot_of}
@@ -14,7 +14,7 @@ use Rattle.osal_time.specs.declared.timer.Timer.{Timer}
 use Rattle.osal_time.specs.Expiry.{expiries_between}
 use Rattle.osal_time.specs.Ticks.{Firing, firing_for, firing_of, firings}
 use Rattle.osal_time.specs.Time.{TimeState}
-use Rattle.osal_time.specs.Attachment.{IsAttached, AreOnce, FewFire}
+use Rattle.osal_time.specs.Attachment.{IsAttached, FewFire}
 
 one_firing : (expiries timer handler : ℕ) → length (firing_for expiries timer handler) ≤ 1
 one_firing expiries timer handler =
@@ -48,16 +48,15 @@ module _ (time : TimeState) (timebase capacity : ℕ) (good : IsWellFormed time.
       (ap (λ o. known_as o (finite_map.get time.timers.table.reserved other)) two.there)
       same
 
-  slots_apart : (timer : ℕ) (others : List ℕ) → IsAttached time timebase timer → AllByRecursion (IsAttached time timebase) others → list_any (λ other. other == timer) others ≡ false → AllByRecursion (λ slot. eqb (slot_of timer time.timers.table.capacity) slot ≡ false) (slots others)
-  slots_apart timer [] one all none = tt
-  slots_apart timer (other ∷ others) one all none =
-      let parts = or_parts (other == timer) (list_any (λ other. other == timer) others) none in (
-        apart _ _ (λ same. both_ways (other == timer) parts.0 (eq-eqb other timer (sym (same_timer timer other one all.0 same)))),
-        slots_apart timer others one all.1 parts.1,
-      )
+  slots_apart : (timer : ℕ) (others : List ℕ) → IsAttached time timebase timer → AllByRecursion (IsAttached time timebase) others → AllByRecursion (λ other. (timer == other) ≡ false) others → AllByRecursion (λ slot. eqb (slot_of timer time.timers.table.capacity) slot ≡ false) (slots others)
+  slots_apart timer [] one all differ = tt
+  slots_apart timer (other ∷ others) one all differ = (
+    apart _ _ (λ same. both_ways (timer == other) differ.0 (eq-eqb timer other (same_timer timer other one all.0 same))),
+    slots_apart timer others one all.1 differ.1,
+  )
 
   -- timers that are attached, each once, stand in different slots
-  slots_differ : (timers : List ℕ) → AllByRecursion (IsAttached time timebase) timers → AreOnce timers → IsDistinct eqb (slots timers)
+  slots_differ : (timers : List ℕ) → AllByRecursion (IsAttached time timebase) timers → IsDistinct nat_eq timers → IsDistinct eqb (slots timers)
   unfolding IsDistinct
   slots_differ [] all once = tt
   slots_differ (timer ∷ timers) all once =
@@ -78,7 +77,7 @@ module _ (time : TimeState) (timebase capacity : ℕ) (good : IsWellFormed time.
       ] refl is
 
   -- attached timers are at most as many as there may be
-  few_attached : (timers : List ℕ) → AllByRecursion (IsAttached time timebase) timers → AreOnce timers → length timers ≤ capacity
+  few_attached : (timers : List ℕ) → AllByRecursion (IsAttached time timebase) timers → IsDistinct nat_eq timers → length timers ≤ capacity
   few_attached timers all once =
       let few = length-le_from_distinct_below (slots timers) capacity (slots_differ timers all once) (slots_below timers) in
       let long = length-map timers (λ timer. slot_of timer time.timers.table.capacity) in

@@ -1,6 +1,6 @@
 -- What holds of the timers and timebases of every history of the time part.
-use Rattle.std.specs.Prelude.{◌≡◌, ◌≤◌, ◌==◌, ℕ, false, List, [], ◌∷◌, length, Some, min}
-use Rattle.std.specs.List.{AllByRecursion, list_any}
+use Rattle.std.specs.Prelude.{◌≡◌, ◌≤◌, ℕ, List, length, nat_eq, Some, min}
+use Rattle.std.specs.List.{AllByRecursion, Contains, IsDistinct}
 use Rattle.osal_base.specs.declared.limits.Limits.{Limits}
 use Rattle.osal_base.specs.Limits.{Fits}
 use Rattle.osal_idtable.specs.Table.{Active}
@@ -17,20 +17,22 @@ pub record IsAttached (time : TimeState) (timebase timer : ℕ) : Type 0 where
   pub there : timer_at time timer ≡ Some active
   pub own : active.object.timebase ≡ timebase
 
--- no timer stands twice in a list
-abbrev pub AreOnce : List ℕ → Type 0
-AreOnce [] = Unit {0}
-AreOnce (timer ∷ timers) = (list_any (λ other. other == timer) timers ≡ false) × AreOnce timers
+-- a timebase is active and has a timer in its list
+pub record IsListed (time : TimeState) (timebase timer : ℕ) : Type 0 where
+  pub active : Active Timebase
+  pub there : timebase_at time timebase ≡ Some active
+  pub listed : Contains active.object.timers timer
 
 -- a timebase has active timers of its own, each once, and not too many
 pub record HasOwnTimers (time : TimeState) (id : ℕ) (timebase : Timebase) : Type 0 where
   pub few : length timebase.timers ≤ timer_limit
-  pub once : AreOnce timebase.timers
+  pub once : IsDistinct nat_eq timebase.timers
   pub own : AllByRecursion (IsAttached time id) timebase.timers
 
--- each timebase has its own timers, and the timers stand in a well-formed table of a capacity
+-- timebases have timers of their own, timers stand in their timebase's list and in a well-formed table of a capacity
 pub record AreAttached (capacity : ℕ) (time : TimeState) : Type 0 where
   pub each : (id : ℕ) (active : Active Timebase) → timebase_at time id ≡ Some active → HasOwnTimers time id active.object
+  pub listed : (id : ℕ) (active : Active Timer) → timer_at time id ≡ Some active → IsListed time active.object.timebase id
   pub timers : IsWellFormed time.timers.table
   pub room : time.timers.table.capacity ≡ capacity
 

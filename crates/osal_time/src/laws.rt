@@ -8,7 +8,8 @@ pub fn expiries_are_counted()
     ensures { ExpiriesAreCounted }
 {}
 
-/// Each timebase has active timers of its own, each once, whatever the calls of the part.
+/// Each timebase has active timers of its own, each once, and each active timer stands in the list of its timebase,
+/// whatever the calls of the part.
 pub fn timers_stay_attached()
     ensures { (limits : Limits) → TimersStayAttached limits }
 {}
