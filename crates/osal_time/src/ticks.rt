@@ -119,9 +119,9 @@ impl TimePart {
         room.clear();
         let attached = match self.timebases.lookup(id) {
             Ok(timebase) => !timebase.timers().is_empty(),
-            Err(_) => return Ok(Ack::refused(Status::ErrInvalidId)),
+            Err(_) => false,
         };
-        if attached || self.timebases.is_held(id) {
+        if attached {
             return Ok(Ack::refused(Status::ErrObjectInUse));
         }
         Ok(self.timebases.delete(id))
