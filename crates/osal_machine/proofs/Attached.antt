@@ -4,7 +4,7 @@ use Rattle.std.proofs.lemmas.Bool.{cond_both}
 use Rattle.std.proofs.lemmas.List.{length-append}
 use Rattle.osal_base.specs.declared.limits.Limits.{Limits}
 use Rattle.osal_base.specs.declared.time.Moment.{Moment}
-use Rattle.osal_base.specs.Limits.{Fits, version1}
+use Rattle.osal_base.specs.Limits.{version1}
 use Rattle.osal_base.specs.Reply.{Replied}
 use Rattle.osal_idtable.specs.Table.{Active}
 use Rattle.osal_time.specs.Timebase.{Timebase, sum_limit, timer_limit}
@@ -19,7 +19,7 @@ use Rattle.osal_machine.specs.declared.call.Entry.{Entry}
 use Rattle.osal_machine.specs.Parts.{time_step}
 use Rattle.osal_machine.specs.Step.{MachineState, opening, step}
 use Rattle.osal_machine.specs.History.{after_entry, replay_from, replay}
-use Rattle.osal_machine.specs.Laws.{TicksFireFew}
+use Rattle.osal_machine.specs.Laws.{TimersAreAttached, TicksFireFew}
 use Rattle.osal_machine.proofs.Histories.{legal_last}
 use Rattle.osal_machine.proofs.Own.{after_time}
 
@@ -49,7 +49,7 @@ attached_from n (entry ∷ entries) state all =
     attached_from n entries (after_entry state entry) (attached_kept n state entry.task entry.now entry.call all)
 
 -- in every history the timers are attached
-pub attached_replayed : (limits : Limits) (entries : List Entry) → Fits limits → AreAttached limits.timers (replay limits entries).time
+pub attached_replayed : TimersAreAttached
 attached_replayed limits entries fits =
     attached_from limits.timers entries (opening limits) ((timers_stay_attached limits).start fits)
 

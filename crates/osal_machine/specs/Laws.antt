@@ -21,12 +21,14 @@ use Rattle.osal_mutex.specs.Mutexes.{mutex_at}
 use Rattle.osal_condvar.specs.Condvars.{condvar_at}
 use Rattle.osal_time.specs.Timebase.{timer_limit}
 use Rattle.osal_time.specs.Time.{timebase_at, timer_at, is_timer}
+use Rattle.osal_time.specs.Attachment.{AreAttached}
 use Rattle.osal_machine.specs.declared.call.Call.{Call}
 use Rattle.osal_machine.specs.declared.call.Call.TheVariants as call
 use Rattle.osal_machine.specs.declared.call.Entry.{Entry}
 use Rattle.osal_machine.specs.Call.{part_of, part_of_id}
 use Rattle.osal_machine.specs.Parts.{PartState, Tasks, Queues, CountSems, BinSems, Mutexes, Condvars, Time, Absent, is_active_in}
 use Rattle.osal_machine.specs.Step.{MachineState, part_in, step, is_active}
+use Rattle.osal_machine.specs.OpenWaits.{has_wait}
 use Rattle.osal_machine.specs.History.{IsLegal, replay, entries_of_part}
 
 -- the identifier that a call is on, if it is on one: the exit and the checkpoint of a task are on that task
@@ -181,6 +183,13 @@ EndsThatWaitChangeNothing =
     → is_waits (step state task now (call.WaitEnd part)).0.answer ≡ true
     → (step state task now (call.WaitEnd part)).1 ≡ state
 
+-- the end of a wait in a part where the task has none is refused and changes nothing, whatever the part's number
+abbrev pub EndsOfNoWaitChangeNothing : Type 0
+EndsOfNoWaitChangeNothing =
+    (state : MachineState) (task : ℕ) (now : Moment) (part : ℕ)
+    → has_wait (part_in part state) task ≡ false
+    → step state task now (call.WaitEnd part) ≡ (refusal status.ErrIncorrectObjState, state)
+
 -- the holds of each part's objects are those of callers and the open waits that stand on them
 pub record AreCounted (state : MachineState) : Type 0 where
   pub tasks : IsCounted state.tasks.objects
@@ -246,6 +255,14 @@ DeletedTasksAreGone =
     → entry.call ≡ call.Checkpoint
     → reply_of entry.reply ≡ deleted
     → task_at (replay limits (before ++ entry ∷ [])).tasks entry.task ≡ None
+
+-- in every state of the machine each timebase has active timers of its own, each once, and each active timer stands in
+-- the list of its timebase
+abbrev pub TimersAreAttached : Type 0
+TimersAreAttached =
+    (limits : Limits) (entries : List Entry)
+    → Fits limits
+    → AreAttached limits.timers (replay limits entries).time
 
 -- a tick tells of no more timers, in twelve bytes each, than a timebase may have, nor than there may be
 abbrev pub TicksFireFew : Type 0

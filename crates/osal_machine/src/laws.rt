@@ -1,6 +1,6 @@
 //! What holds of every history of the machine, as clauses of functions that do nothing.
 ghost use Rattle.osal_machine.specs.QueueLaw.{QueuesKeepTheirOrder};
-ghost use Rattle.osal_machine.specs.Laws.{StaleIdentifiersAreRefused, WrapCountRises, HeldObjectsAreKept, RefusedCallsChangeNothing, EndsThatWaitChangeNothing, ObjectsAreCounted, TablesAreWellFormed, CallsChangeTheirPart, PartsReplayAlone, MarkedTasksAreUnheld, DeletedTasksAreGone, TicksFireFew};
+ghost use Rattle.osal_machine.specs.Laws.{StaleIdentifiersAreRefused, WrapCountRises, HeldObjectsAreKept, RefusedCallsChangeNothing, EndsThatWaitChangeNothing, EndsOfNoWaitChangeNothing, ObjectsAreCounted, TablesAreWellFormed, CallsChangeTheirPart, PartsReplayAlone, MarkedTasksAreUnheld, DeletedTasksAreGone, TimersAreAttached, TicksFireFew};
 
 /// An entry on an identifier that is not active is refused by that, where nothing refuses it before.
 pub fn stale_identifiers_are_refused()
@@ -25,6 +25,11 @@ pub fn refused_calls_change_nothing()
 /// The end of a wait that waits on changes nothing.
 pub fn ends_that_wait_change_nothing()
     ensures { EndsThatWaitChangeNothing }
+{}
+
+/// The end of a wait in a part where the task has none is refused and changes nothing.
+pub fn ends_of_no_wait_change_nothing()
+    ensures { EndsOfNoWaitChangeNothing }
 {}
 
 /// The holds of an object are those of callers and the open waits that stand on it.
@@ -60,6 +65,11 @@ pub fn deleted_tasks_are_gone()
 /// The gets of a queue give the messages that it accepted, in order, each once; the rest is what it holds.
 pub fn queues_keep_their_order()
     ensures { QueuesKeepTheirOrder }
+{}
+
+/// Each timebase has active timers of its own, each once, and each active timer stands in the list of its timebase.
+pub fn timers_are_attached()
+    ensures { TimersAreAttached }
 {}
 
 /// A tick tells of no more timers, in twelve bytes each, than a timebase may have, nor than there may be.
