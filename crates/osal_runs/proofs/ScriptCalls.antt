@@ -189,6 +189,10 @@ module _ (state left : MachineState) (task : ℕ) where
   pub closed_left : (part : ℕ) → Closes state left task part → IsLinkedAt state task (phase.Leaving part) → Moves state left task phase.Ended
   closed_left part is linked = record { own = closed_at (phase.Leaving part) part (λ other. refl) is linked; others = is.others; kept = is.kept }
 
+-- an answer that goes on tells of no deletion
+goes_on_undeleted : answer.Go ≡ answer.Deleted → ⊥
+goes_on_undeleted is = cc
+
 module _ (state : MachineState) (task : ℕ) where
   -- nothing moves but the script
   unmoved : (left : Phase) → IsLinkedAt state task left → Moves state state task left
@@ -212,7 +216,7 @@ module _ (state : MachineState) (task : ℕ) where
 
   passed_waiting : (part : ℕ) (stepped : Replied × MachineState) → IsPassed stepped → stepped.0.answer ≡ answer.Deleted → IsLinkedAt state task (phase.Waiting part) → Moves state stepped.1 task (phase.Leaving part)
   passed_waiting part stepped (inl same) is linked =
-      let other : answer.Go ≡ answer.Deleted = sym (ap (λ (p : Replied × MachineState). p.0.answer) same) ∙ is in cc
+      absurd (goes_on_undeleted (sym (ap (λ (p : Replied × MachineState). p.0.answer) same) ∙ is))
   passed_waiting part stepped (inr gone) is linked = removed_leaving state stepped.1 task part gone.1 linked
 
   module _ (unheld : AreUnheld state.tasks) (now : Moment) where
