@@ -16,6 +16,14 @@ by_fails : (fails : Bool) → ◌≡◌ {A = ℕ} (cond (not fails) 0 1) (cond f
 by_fails true = refl
 by_fails false = refl
 
+twice : (b : Bool) → not (not b) ≡ b
+twice true = refl
+twice false = refl
+
+-- no case fails where none is counted
+pub none_fails : (counted failed : ℕ) → counted ≡ failed → not (not (counted == 0)) ≡ (failed == 0)
+none_fails counted failed is = twice (counted == 0) ∙ ap (λ n. n == 0) is
+
 -- the status of a part run, by whether a script stalls and whether a case fails
 pub status_by_end : (app : Application) (entries : List Entry) (stalled fails : Bool) → NamesLater app → IsPartRun app entries → stalled ≡ some_stalls (segments_of app entries) → not fails ≡ (all_failed (segments_of app entries) == 0) → ◌≡◌ {A = ℕ} (cond stalled 3 (cond fails 1 0)) (status_of app entries)
 status_by_end app entries stalled fails later run by_stalls by_passes =

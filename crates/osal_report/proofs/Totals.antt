@@ -1,6 +1,6 @@
 -- What the drafts say together.
-use Rattle.std.proofs.Common.{◌≡◌, ◌≤◌, ◌+◌, ◌++◌, List, [], ◌∷◌, ℕ, cond, length, map, refl, ap, ◌∙◌, arith}
-use Rattle.std.specs.List.{flat_map, sum_by}
+use Rattle.std.proofs.Common.{◌≡◌, ◌≤◌, ◌+◌, ◌++◌, ◌||◌, List, [], ◌∷◌, ℕ, cond, length, map, refl, ap, ◌∙◌, arith}
+use Rattle.std.specs.List.{flat_map, list_any, sum_by}
 use Rattle.std.proofs.lemmas.List.{length-append, length-map}
 use Rattle.std.proofs.lemmas.List.Sums.{sum_by-cons}
 use Rattle.osal_script.specs.Script.{Pending}
@@ -8,6 +8,7 @@ use Rattle.osal_script.specs.Cursor.{first_line}
 use Rattle.osal_runs.specs.Segments.{Segment, script_in}
 use Rattle.osal_report.specs.Cases.{cases_of, cases_text, passed, failed}
 use Rattle.osal_report.specs.Report.{is_stalled, how_text, stall_of, begin_text, end_text, total_text, segment_text, segments_text, all_passed, all_failed, report_of}
+use Rattle.osal_report.specs.Ends.{stalls, some_stalls}
 use Rattle.osal_report.specs.Draft.{DraftState, draft_of, draft_text, stall_of_line, IsCounted}
 
 -- a draft's text has a line for each of its cases
@@ -51,7 +52,13 @@ failed_of_drafts (segment ∷ segments) =
     sum_by-cons (λ (draft : DraftState). draft.fail) (draft_of segment) (map draft_of segments)
     ∙ ap (λ rest. failed (cases_of segment) + rest) (failed_of_drafts segments)
 
+-- a draft's script has an open wait where its segment's has one
+pub stalled_of_drafts : (segments : List Segment) → list_any (λ (draft : DraftState). is_stalled draft.script.phase) (map draft_of segments) ≡ some_stalls segments
+stalled_of_drafts [] = refl
+stalled_of_drafts (segment ∷ segments) =
+    ap (λ rest. stalls segment || rest) (stalled_of_drafts segments)
+
 -- the drafts' texts and counts make the report
-pub report_of_drafts : (segments : List Segment) (drafts : List DraftState) (tasks pass fail : ℕ) → drafts ≡ map draft_of segments → tasks ≡ length drafts → pass ≡ sum_by (λ (draft : DraftState). draft.pass) drafts → fail ≡ sum_by (λ (draft : DraftState). draft.fail) drafts → flat_map draft_text drafts ++ total_text tasks pass fail ≡ report_of segments
-report_of_drafts segments drafts tasks pass fail is by_tasks by_pass by_fail =
-    rw (by_tasks, by_pass, by_fail, is, length-map, passed_of_drafts, failed_of_drafts, texts_of_drafts) refl
+pub report_of_drafts : (segments : List Segment) (drafts : List DraftState) → drafts ≡ map draft_of segments → flat_map draft_text drafts ++ total_text (length drafts) (sum_by (λ (draft : DraftState). draft.pass) drafts) (sum_by (λ (draft : DraftState). draft.fail) drafts) ≡ report_of segments
+report_of_drafts segments drafts is =
+    rw (is, length-map, passed_of_drafts, failed_of_drafts, texts_of_drafts) refl

@@ -1,12 +1,13 @@
 //! The draft of a segment: its cases and counts, as far as its entries are read.
 ghost use Rattle.std.specs.Prelude.{◌≡◌, ◌+◌, ◌<◌, ◌≤◌, ◌^◌, ◌++◌, [], length, IfOk, OnOk};
 ghost use Rattle.osal_report.specs.Cases.{case_by, cases_text, passed, failed};
+ghost use Rattle.osal_report.specs.Report.{is_stalled as is_stalled_phase};
 ghost use Rattle.osal_report.specs.Draft.{draft_of, noted, draft_text};
 
 use crate::cases::push_case;
 use crate::counts::Counts;
 use crate::entry::{case_at, is_exit};
-use crate::segment::{how, push_begin, push_end, push_stall};
+use crate::segment::{how, is_stalled, push_begin, push_end, push_stall};
 use crate::spelling::push_bytes;
 use osal_base::OutOfMemory;
 use osal_machine::Entry;
@@ -108,6 +109,13 @@ impl<'a> Draft<'a> {
         ensures { result ≡ record { pass = self.now.pass; fail = self.now.fail } }
     {
         self.counts
+    }
+
+    /// Whether its script has an open wait.
+    pub(crate) fn is_stalled(&self) -> bool
+        ensures { result ≡ is_stalled_phase self.now.script.phase }
+    {
+        is_stalled(self.cursor.phase())
     }
 
     /// How much room the segment's text takes, with some to spare.

@@ -1,9 +1,10 @@
 //! One pass over a journal, with a draft for each segment.
 ghost use Rattle.std.specs.Prelude.{◌≡◌, ◌++◌, map, OnOk, IfOk};
 ghost use Rattle.std.specs.Ordering.{nat_cmp};
-ghost use Rattle.std.specs.List.{AllByRecursion};
+ghost use Rattle.std.specs.List.{AllByRecursion, list_any};
 ghost use Rattle.std.specs.BTreeMap.{get};
 ghost use Rattle.osal_runs.specs.Segments.{begun as begun_by, segments_of};
+ghost use Rattle.osal_report.specs.Report.{is_stalled};
 ghost use Rattle.osal_report.specs.Draft.{draft_of, joined_drafts, newest_place, IsCounted, IsIndex};
 
 use crate::draft::Draft;
@@ -79,4 +80,11 @@ pub(crate) fn drafts_of<'a>(
         drafts.begin(alloc, app, entry)?;
     }
     Ok(drafts.list)
+}
+
+/// Whether the script of a draft has an open wait.
+pub(crate) fn some_stalled(drafts: &[Draft]) -> bool
+    ensures { result ≡ list_any (λ draft. is_stalled draft.script.phase) drafts.now }
+{
+    drafts.iter().any(|draft| draft.is_stalled())
 }

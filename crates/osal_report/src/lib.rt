@@ -15,4 +15,4 @@ mod summary;
 mod tests;
 
 pub use status::status_of;
-pub use summary::report;
+pub use summary::{Summary, report, summarize};

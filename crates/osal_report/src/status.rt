@@ -39,7 +39,7 @@ impl End {
     }
 
     /// The status of a journal whose scripts end so.
-    fn status(self) -> u8
+    pub(crate) fn status(self) -> u8
         ensures { result ≡ (if self.stalled then 3 else (if self.fails then 1 else 0)) }
     {
         if self.stalled {

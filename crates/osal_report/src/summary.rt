@@ -1,13 +1,16 @@
-//! The report of a journal.
-ghost use Rattle.std.specs.Prelude.{◌≡◌, ◌++◌, IfOk, OnOk};
+//! The report of a journal, alone and with its exit status.
+ghost use Rattle.std.specs.Prelude.{◌≡◌, ◌++◌, length, IfOk, OnOk};
 ghost use Rattle.std.specs.List.{AllByRecursion, flat_map, sum_by};
+ghost use Rattle.osal_runs.specs.Runs.{IsPartRun};
 ghost use Rattle.osal_report.specs.Report.{total_text, report_text};
+ghost use Rattle.osal_report.specs.Status.{status_of};
 ghost use Rattle.osal_report.specs.Draft.{IsCounted, draft_text};
 
 use crate::counts::{Counts, push_counts};
 use crate::draft::Draft;
-use crate::drafts::drafts_of;
+use crate::drafts::{drafts_of, some_stalled};
 use crate::spelling::{push_bytes, push_decimal};
+use crate::status::End;
 use osal_base::{Bytes, OutOfMemory};
 use osal_machine::Journal;
 use osal_script::App;
@@ -57,6 +60,19 @@ fn push_total(
     Ok(())
 }
 
+/// The text of a report by its drafts, and how many of its cases pass and fail.
+fn written(alloc: Global, drafts: &[Draft]) -> Result<(Bytes, Counts), OutOfMemory>
+    requires { AllByRecursion IsCounted drafts.now }
+    ensures text { IfOk result (λ made. made.0.bytes ≡ flat_map draft_text drafts.now
+        ++ total_text (length drafts.now) (sum_by (λ draft. draft.pass) drafts.now) (sum_by (λ draft. draft.fail) drafts.now)) }
+    ensures fail { IfOk result (λ made. made.1.fail ≡ sum_by (λ draft. draft.fail) drafts.now) }
+{
+    let mut out = Vec::with_capacity(alloc, room_of(drafts))?;
+    let counts = push_segments(alloc, &mut out, drafts)?;
+    push_total(alloc, &mut out, drafts.len() as u64, counts)?;
+    Ok((Bytes::from_vec(out), counts))
+}
+
 /// The report: a segment for each task that was created, with a line for each case, and the totals.
 ///
 /// It reads the journal once, in time proportional to the journal and its text, times the logarithm of the number
@@ -65,8 +81,34 @@ pub fn report(alloc: Global, app: &App, journal: &Journal) -> Result<Bytes, OutO
     ensures { IfOk result (λ text. text.bytes ≡ report_text app.now journal.now.entries) }
 {
     let drafts = drafts_of(alloc, app, journal.entries())?;
-    let mut out = Vec::with_capacity(alloc, room_of(drafts.as_slice()))?;
-    let counts = push_segments(alloc, &mut out, drafts.as_slice())?;
-    push_total(alloc, &mut out, drafts.len() as u64, counts)?;
-    Ok(Bytes::from_vec(out))
+    let (text, _) = written(alloc, drafts.as_slice())?;
+    Ok(text)
+}
+
+/// What a journal says of its application: the text of its report, and its exit status.
+#[derive(Debug, Drop)]
+pub struct Summary {
+    pub report: Bytes,
+    /// 3 where a wait is open at the end, else 1 where a case failed, else 0.
+    pub status: u8,
+}
+
+/// The report and the exit status, by one reading of the journal.
+///
+/// Its time is that of `report`; `status_of` tells the status alone, and takes no memory.
+pub fn summarize(alloc: Global, app: &App, journal: &Journal) -> Result<Summary, OutOfMemory>
+    requires { IsPartRun app.now journal.now.entries }
+    ensures report { IfOk result (λ made. made.report.bytes ≡ report_text app.now journal.now.entries) }
+    ensures status { IfOk result (λ made. made.status ≡ status_of app.now journal.now.entries) }
+{
+    let drafts = drafts_of(alloc, app, journal.entries())?;
+    let (report, counts) = written(alloc, drafts.as_slice())?;
+    let end = End {
+        stalled: some_stalled(drafts.as_slice()),
+        fails: counts.fail != 0,
+    };
+    // The law that ties open waits to scripts asks that bodies name later ones alone, which this tells.
+    let _ = app.bodies();
+    let status = end.status();
+    Ok(Summary { report, status })
 }

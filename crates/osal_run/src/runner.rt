@@ -14,7 +14,7 @@ use crate::{Exit, Refusal};
 use osal_base::{Shelf, Sink, WriteFailed, send_all};
 use osal_exec::{Gate, Outcome, drive};
 use osal_machine::Journal;
-use osal_report::{report, status_of};
+use osal_report::summarize;
 use osal_script::App;
 use std::alloc::Global;
 
@@ -63,11 +63,11 @@ fn execute<K: Sink, G: Gate>(
         Outcome::Settled => {}
         Outcome::OutOfMemory => return Exit::NoMemory,
     }
-    let Ok(text) = report(alloc, app, journal) else {
+    let Ok(summary) = summarize(alloc, app, journal) else {
         return Exit::NoMemory;
     };
-    match write_text(sink, text.as_slice()) {
-        Ok(()) => finished(status_of(app, journal)),
+    match write_text(sink, summary.report.as_slice()) {
+        Ok(()) => finished(summary.status),
         Err(WriteFailed) => Exit::SinkFault,
     }
 }
