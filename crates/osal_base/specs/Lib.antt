@@ -5,11 +5,3 @@ pub mod Text
 pub mod Time
 pub mod Reply
 pub mod Limits
-pub mod Causes
-pub mod Shelf
-pub mod Sink
-pub mod Plan
-pub mod Memory
-pub mod MemShelf
-pub mod MemSink
-pub mod Host

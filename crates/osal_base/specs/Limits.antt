@@ -35,3 +35,7 @@ version1 = record {
   dirs = 4;
   file_systems = 14;
 }
+
+-- the highest number that the priority of a task may have
+abbrev pub lowest_priority : ℕ
+lowest_priority = 255

@@ -1,5 +1,5 @@
 -- Replies as contracts see them.
-use Rattle.std.specs.Prelude.{List, [], ℕ, Bool, true, false, pos}
+use Rattle.std.specs.Prelude.{List, [], ℕ, Bool, true, false, not, pos}
 use Rattle.std.specs.Ordering.{int_eq}
 use Rattle.osal_base.specs.declared.status.Status.{Status}
 use Rattle.osal_base.specs.declared.reply.Answer.{Answer}
@@ -63,3 +63,10 @@ is_success (answer.Code code) = int_eq code (pos 0)
 is_success answer.Waits = false
 is_success answer.Go = false
 is_success answer.Deleted = false
+
+-- whether an answer is a refusal: a code other than success
+abbrev pub is_refusal : Answer → Bool
+is_refusal (answer.Code code) = not (int_eq code (pos 0))
+is_refusal answer.Waits = false
+is_refusal answer.Go = false
+is_refusal answer.Deleted = false

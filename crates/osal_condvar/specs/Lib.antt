@@ -1,6 +1,6 @@
 pub use Rattle.osal_idtable.specs.Table
 pub use Rattle.osal_idtable.specs.Steps
-pub use Rattle.osal_idtable.specs.Objects
-pub use Rattle.osal_idtable.specs.Waits
-pub use Rattle.osal_idtable.specs.Deadlines
+pub use Rattle.osal_object.specs.Objects
+pub use Rattle.osal_object.specs.Waits
+pub use Rattle.osal_object.specs.Deadlines
 pub mod Condvars

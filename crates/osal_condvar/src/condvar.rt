@@ -1,9 +1,11 @@
 //! Condition variables, and what the calls on them wait for.
-ghost use Rattle.std.specs.Prelude.{◌≡◌};
-ghost use Rattle.osal_condvar.specs.Condvars.{is_owner, is_for, waiting_call};
+ghost use Rattle.std.specs.Prelude.{◌≡◌, Some};
+ghost use Rattle.osal_object.specs.Standing.{standing_on};
+ghost use Rattle.osal_object.specs.Waits.{new_wait};
+ghost use Rattle.osal_condvar.specs.Condvars.{is_owner, is_for};
 
 use osal_base::{Moment, OsalId, Timeout};
-use osal_idtable::{Standing, WaitRecord};
+use osal_object::{Standing, WaitRecord};
 
 /// A condition variable: of itself it has its lock alone.
 #[derive(Clone, Copy, Debug, PartialEq, Eq)]
@@ -60,7 +62,7 @@ pub(crate) fn waiting_call(
     wait: Timeout,
     now: Moment,
 ) -> WaitRecord<CondvarWait>
-    ensures { result ≡ waiting_call task id aim wait now }
+    ensures { result ≡ new_wait task (record { id = id; aim = aim }) (standing_on (Some id)) wait now }
 {
     let what = CondvarWait { id, aim };
     WaitRecord::new(task, what, Standing::new(Some(id)), wait, now)

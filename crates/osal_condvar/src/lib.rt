@@ -5,8 +5,6 @@ mod condvar;
 mod lock;
 mod part;
 mod signal;
-#[cfg(test)]
-mod tests;
 mod waiting;
 
 pub use condvar::{Aim, Condvar, CondvarWait};

@@ -1,7 +1,7 @@
 //! How the lock of a condition variable is taken and freed.
 ghost use Rattle.std.specs.Prelude.{◌≡◌, IsOk, IfOk};
 ghost use Rattle.osal_base.specs.Reply.{replied};
-ghost use Rattle.osal_condvar.specs.Condvars.{condvar_lock_step, condvar_unlock_step};
+ghost use Rattle.osal_condvar.specs.Condvars.{done, condvar_lock, condvar_unlock};
 
 use crate::condvar::waiting_call;
 use crate::{Aim, Condvar, CondvarPart};
@@ -21,7 +21,7 @@ impl CondvarPart {
         id: OsalId,
         room: &mut Room,
     ) -> Result<Ack, OutOfMemory>
-        ensures step { IfOk result (λ ack. (replied ack room.new, self.new) ≡ condvar_lock_step self.old task now id) }
+        ensures step { IfOk result (λ ack. (replied ack room.new, self.new) ≡ done self.old task now (condvar_lock task id)) }
         ensures memory { IsOk result }
     {
         room.clear();
@@ -47,11 +47,11 @@ impl CondvarPart {
         &mut self,
         _alloc: Global,
         task: OsalId,
-        _now: Moment,
+        now: Moment,
         id: OsalId,
         room: &mut Room,
     ) -> Result<Ack, OutOfMemory>
-        ensures step { IfOk result (λ ack. (replied ack room.new, self.new) ≡ condvar_unlock_step self.old task id) }
+        ensures step { IfOk result (λ ack. (replied ack room.new, self.new) ≡ done self.old task now (condvar_unlock task id)) }
         ensures memory { IsOk result }
     {
         room.clear();

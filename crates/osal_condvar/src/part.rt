@@ -3,11 +3,13 @@ ghost use Rattle.std.specs.Prelude.{◌≡◌, IsOk, IfOk, is_some};
 ghost use Rattle.osal_base.specs.Limits.{Fits};
 ghost use Rattle.osal_base.specs.Reply.{replied};
 ghost use Rattle.osal_idtable.specs.Table.{active_at};
-ghost use Rattle.osal_condvar.specs.Condvars.{no_condvars, condvar_create_step, condvar_delete_step, condvar_find_step, hold_step, release_step};
+ghost use Rattle.osal_object.specs.Outcomes.{Find, Hold, Release};
+ghost use Rattle.osal_condvar.specs.Condvars.{no_condvars, done, condvar_create, condvar_delete};
 
 use crate::{Condvar, CondvarWait};
 use osal_base::{Ack, Bytes, Limits, Moment, Name, ObjType, OsalId, OutOfMemory, Room, Status};
-use osal_idtable::{Objects, status_of_name};
+use osal_idtable::status_of_name;
+use osal_object::Objects;
 use std::alloc::Global;
 use std::marker::Model;
 
@@ -22,7 +24,7 @@ pub struct CondvarPart {
 impl Model for CondvarPart {
     ghost use Rattle.osal_condvar.specs.Condvars.{CondvarState};
     ghost use Rattle.std.specs.Coded.{codes};
-    ghost use Rattle.osal_idtable.specs.Code.{objects_code};
+    ghost use Rattle.osal_object.specs.Code.{objects_code};
 
     ghost Value = { CondvarState };
 
@@ -49,13 +51,13 @@ impl CondvarPart {
     pub fn condvar_create(
         &mut self,
         _alloc: Global,
-        _task: OsalId,
-        _now: Moment,
+        task: OsalId,
+        now: Moment,
         name: &Bytes,
         room: &mut Room,
     ) -> Result<Ack, OutOfMemory>
         ensures step { IfOk result (λ ack. (replied ack room.new, self.new)
-            ≡ condvar_create_step self.old name.now.bytes) }
+            ≡ done self.old task now (condvar_create name.now.bytes)) }
         ensures memory { IsOk result }
     {
         room.clear();
@@ -72,12 +74,12 @@ impl CondvarPart {
     pub fn condvar_delete(
         &mut self,
         _alloc: Global,
-        _task: OsalId,
-        _now: Moment,
+        task: OsalId,
+        now: Moment,
         id: OsalId,
         room: &mut Room,
     ) -> Result<Ack, OutOfMemory>
-        ensures step { IfOk result (λ ack. (replied ack room.new, self.new) ≡ condvar_delete_step self.old id) }
+        ensures step { IfOk result (λ ack. (replied ack room.new, self.new) ≡ done self.old task now (condvar_delete id)) }
         ensures memory { IsOk result }
     {
         room.clear();
@@ -95,12 +97,12 @@ impl CondvarPart {
     pub fn condvar_find(
         &mut self,
         _alloc: Global,
-        _task: OsalId,
-        _now: Moment,
+        task: OsalId,
+        now: Moment,
         name: &Bytes,
         room: &mut Room,
     ) -> Result<Ack, OutOfMemory>
-        ensures step { IfOk result (λ ack. (replied ack room.new, self.new) ≡ condvar_find_step self.old name.now.bytes) }
+        ensures step { IfOk result (λ ack. (replied ack room.new, self.new) ≡ done self.old task now (Find name.now.bytes)) }
         ensures memory { IsOk result }
     {
         room.clear();
@@ -111,12 +113,12 @@ impl CondvarPart {
     pub fn hold(
         &mut self,
         _alloc: Global,
-        _task: OsalId,
-        _now: Moment,
+        task: OsalId,
+        now: Moment,
         id: OsalId,
         room: &mut Room,
     ) -> Result<Ack, OutOfMemory>
-        ensures step { IfOk result (λ ack. (replied ack room.new, self.new) ≡ hold_step self.old id) }
+        ensures step { IfOk result (λ ack. (replied ack room.new, self.new) ≡ done self.old task now (Hold id)) }
         ensures memory { IsOk result }
     {
         room.clear();
@@ -127,12 +129,12 @@ impl CondvarPart {
     pub fn release(
         &mut self,
         _alloc: Global,
-        _task: OsalId,
-        _now: Moment,
+        task: OsalId,
+        now: Moment,
         id: OsalId,
         room: &mut Room,
     ) -> Result<Ack, OutOfMemory>
-        ensures step { IfOk result (λ ack. (replied ack room.new, self.new) ≡ release_step self.old id) }
+        ensures step { IfOk result (λ ack. (replied ack room.new, self.new) ≡ done self.old task now (Release id)) }
         ensures memory { IsOk result }
     {
         room.clear();

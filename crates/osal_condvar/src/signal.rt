@@ -1,7 +1,7 @@
 //! How tasks wait for the signals of a condition variable, and who gets them.
 ghost use Rattle.std.specs.Prelude.{◌≡◌, IsOk, IfOk};
 ghost use Rattle.osal_base.specs.Reply.{replied};
-ghost use Rattle.osal_condvar.specs.Condvars.{longest_waiting, condvar_signal_step, condvar_broadcast_step, condvar_wait_step};
+ghost use Rattle.osal_condvar.specs.Condvars.{longest_waiting, done, condvar_signal, condvar_broadcast, condvar_wait};
 
 use crate::condvar::waiting_call;
 use crate::{Aim, Condvar, CondvarPart};
@@ -26,12 +26,12 @@ impl CondvarPart {
     pub fn condvar_signal(
         &mut self,
         _alloc: Global,
-        _task: OsalId,
-        _now: Moment,
+        task: OsalId,
+        now: Moment,
         id: OsalId,
         room: &mut Room,
     ) -> Result<Ack, OutOfMemory>
-        ensures step { IfOk result (λ ack. (replied ack room.new, self.new) ≡ condvar_signal_step self.old id) }
+        ensures step { IfOk result (λ ack. (replied ack room.new, self.new) ≡ done self.old task now (condvar_signal self.old id)) }
         ensures memory { IsOk result }
     {
         room.clear();
@@ -50,12 +50,12 @@ impl CondvarPart {
     pub fn condvar_broadcast(
         &mut self,
         _alloc: Global,
-        _task: OsalId,
-        _now: Moment,
+        task: OsalId,
+        now: Moment,
         id: OsalId,
         room: &mut Room,
     ) -> Result<Ack, OutOfMemory>
-        ensures step { IfOk result (λ ack. (replied ack room.new, self.new) ≡ condvar_broadcast_step self.old id) }
+        ensures step { IfOk result (λ ack. (replied ack room.new, self.new) ≡ done self.old task now (condvar_broadcast id)) }
         ensures memory { IsOk result }
     {
         room.clear();
@@ -80,7 +80,7 @@ impl CondvarPart {
         room: &mut Room,
     ) -> Result<Ack, OutOfMemory>
         ensures step { IfOk result (λ ack. (replied ack room.new, self.new)
-            ≡ condvar_wait_step self.old task now id wait) }
+            ≡ done self.old task now (condvar_wait task id wait)) }
         ensures memory { IsOk result }
     {
         room.clear();

@@ -1,7 +1,7 @@
 //! How the calls that wait end: each end takes the lock.
 ghost use Rattle.std.specs.Prelude.{◌≡◌, IsOk, IfOk};
 ghost use Rattle.osal_base.specs.Reply.{replied};
-ghost use Rattle.osal_idtable.specs.Deadlines.{deadlines_in, least};
+ghost use Rattle.osal_object.specs.Deadlines.{deadlines_in, least};
 ghost use Rattle.osal_condvar.specs.Condvars.{wait_end_step, wait_abandon_step, ready};
 
 use crate::{Aim, Condvar, CondvarPart};

@@ -1,6 +1,8 @@
 //! Files that are missing or too large, and a source or a sink that fails.
 
-use crate::fixture::{Faults, NO_FAULTS, run_text, run_words};
+use crate::fixture::{Faults, NO_FAULTS, has_output, makes_no_call, run_words};
+use std::alloc::Global;
+use std::process::Abort;
 use std::test::Fail;
 
 const APP: &str = "osal-app 1
@@ -19,34 +21,57 @@ const REPORT: &str = "[BEGIN] 0x00010001 main
 
 #[test]
 fn a_file_that_is_not_there_is_told(rt: HostRuntime) -> Result<(), Fail> {
-    let ran = run_words(&rt, rt.alloc(), &["other"], APP.as_bytes(), NO_FAULTS)?;
-    assert_eq!(rt; ran.status, 2);
-    assert!(rt; ran.written.as_slice() == b"osal-run: no such file\n".as_slice());
-    assert_eq!(rt; ran.journal.len(), 0);
+    let output = "osal-run: no such file\n";
+    let told = makes_no_call(
+        &rt,
+        rt.alloc(),
+        &["other"],
+        APP.as_bytes(),
+        NO_FAULTS,
+        2,
+        output,
+    )?;
+    assert!(rt; told);
+    Ok(())
+}
+
+/// The application with empty lines behind it, of so many bytes.
+fn app_of_length(alloc: Global, length: usize) -> Result<Vec<u8>, Fail> {
+    let mut text = Vec::from_slice(alloc, APP.as_bytes())?;
+    for _ in text.len()..length {
+        text.push(b'\n')?;
+    }
+    Ok(text)
+}
+
+const LARGE_GRAIN: Faults = Faults {
+    grain: 65536,
+    shelf_call: None,
+    sink_call: None,
+};
+
+#[test]
+fn a_file_may_have_a_mebibyte(rt: HostRuntime) -> Result<(), Fail> {
+    let text = app_of_length(rt.alloc(), 1_048_576)?;
+    let ran = run_words(&rt, rt.alloc(), &["app"], text.as_slice(), LARGE_GRAIN)?;
+    assert!(rt; ran.status == 0);
     Ok(())
 }
 
 #[test]
-fn a_file_may_have_a_mebibyte_and_no_byte_more(rt: HostRuntime) -> Result<(), Fail> {
-    let alloc = rt.alloc();
-    let mut text = Vec::from_slice(alloc, APP.as_bytes())?;
-    for _ in 0..1_048_576 {
-        if text.len() < 1_048_576 {
-            text.push(b'\n')?;
-        }
-    }
-    let faults = Faults {
-        grain: 65536,
-        ..NO_FAULTS
-    };
-    let ran = run_words(&rt, alloc, &["app"], text.as_slice(), faults)?;
-    assert_eq!(rt; ran.status, 0);
-    text.push(b'\n')?;
-    let ran = run_words(&rt, alloc, &["app"], text.as_slice(), faults)?;
-    assert_eq!(rt; ran.status, 2);
-    assert!(rt;
-        ran.written.as_slice() == b"osal-run: file is larger than 1048576 bytes\n".as_slice()
-    );
+fn a_file_may_have_no_byte_more(rt: HostRuntime) -> Result<(), Fail> {
+    let text = app_of_length(rt.alloc(), 1_048_577)?;
+    let output = "osal-run: file is larger than 1048576 bytes\n";
+    let told = makes_no_call(
+        &rt,
+        rt.alloc(),
+        &["app"],
+        text.as_slice(),
+        LARGE_GRAIN,
+        2,
+        output,
+    )?;
+    assert!(rt; told);
     Ok(())
 }
 
@@ -57,12 +82,28 @@ fn each_failing_call_of_the_source_ends_the_run(rt: HostRuntime) -> Result<(), F
             shelf_call: Some(call),
             ..NO_FAULTS
         };
-        let ran = run_words(&rt, rt.alloc(), &["app"], APP.as_bytes(), faults)?;
-        assert_eq!(rt; ran.status, 4, "call {call}");
-        assert_eq!(rt; ran.written.len(), 0);
-        assert_eq!(rt; ran.journal.len(), 0);
+        let ends = makes_no_call(&rt, rt.alloc(), &["app"], APP.as_bytes(), faults, 4, "")?;
+        assert!(rt; ends, "call {call}");
     }
     Ok(())
+}
+
+/// Whether a run through a sink that fails leaves a prefix of the report, of at most so many bytes.
+fn leaves_prefix(
+    rt: &impl Abort,
+    alloc: Global,
+    faults: Faults,
+    most: usize,
+) -> Result<bool, Fail> {
+    let ran = run_words(rt, alloc, &["app"], APP.as_bytes(), faults)?;
+    let written = ran.written.as_slice();
+    Ok(ran.status == 5 && written.len() <= most && REPORT.as_bytes().starts_with(written))
+}
+
+/// Whether a wrong command through a sink that fails has that status, and makes no call.
+fn leaves_nothing(rt: &impl Abort, alloc: Global, faults: Faults) -> Result<bool, Fail> {
+    let ran = run_words(rt, alloc, &["-x"], APP.as_bytes(), faults)?;
+    Ok(ran.status == 5 && ran.journal.len() == 0)
 }
 
 #[test]
@@ -73,15 +114,16 @@ fn a_failing_sink_leaves_a_prefix(rt: HostRuntime) -> Result<(), Fail> {
             shelf_call: None,
             sink_call: Some(call),
         };
-        let ran = run_words(&rt, rt.alloc(), &["app"], APP.as_bytes(), faults)?;
-        assert_eq!(rt; ran.status, 5, "call {call}");
-        assert!(rt; ran.written.len() <= most);
-        assert!(rt; REPORT.as_bytes().starts_with(ran.written.as_slice()));
-        let refused = run_words(&rt, rt.alloc(), &["-x"], APP.as_bytes(), faults)?;
-        assert_eq!(rt; refused.status, 5);
-        assert_eq!(rt; refused.journal.len(), 0);
+        let prefix = leaves_prefix(&rt, rt.alloc(), faults, most)?;
+        let nothing = leaves_nothing(&rt, rt.alloc(), faults)?;
+        assert!(rt; prefix && nothing, "call {call}");
     }
-    let ran = run_text(&rt, rt.alloc(), APP.as_bytes())?;
-    assert!(rt; ran.written.as_slice() == REPORT.as_bytes());
+    Ok(())
+}
+
+#[test]
+fn a_sink_that_does_not_fail_gets_the_report(rt: HostRuntime) -> Result<(), Fail> {
+    let same = has_output(&rt, rt.alloc(), APP, 0, REPORT)?;
+    assert!(rt; same);
     Ok(())
 }

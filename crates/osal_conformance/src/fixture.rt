@@ -1,8 +1,9 @@
 //! A run over one file in memory.
 
-use osal_base::{Answer, Bytes, MemShelf, MemSink};
+use osal_base::{Answer, Bytes};
+use osal_call::{Call, Entry, Journal};
 use osal_exec::{FreeGate, Gate};
-use osal_machine::{Call, Journal};
+use osal_outside::{MemShelf, MemSink};
 use osal_run::run;
 use std::alloc::Global;
 use std::process::Abort;
@@ -51,6 +52,40 @@ pub fn run_words(
     run_through(rt, alloc, words, text, faults, &FreeGate)
 }
 
+/// A shelf whose one file is `app` with this text.
+fn shelf_of(rt: &impl Abort, alloc: Global, text: &[u8], faults: Faults) -> Result<MemShelf, Fail> {
+    let plan = plan(alloc, faults.shelf_call)?;
+    let file = (String::from_str(alloc, "app")?, Bytes::copy(alloc, text)?);
+    let files = vec![in alloc; file]?;
+    assert!(rt; !MemShelf::has_twins(&files));
+    Ok(MemShelf::new(files, faults.grain.max(1), plan))
+}
+
+/// A sink with room for a mebibyte.
+fn sink_of(alloc: Global, faults: Faults) -> Result<MemSink, Fail> {
+    let plan = plan(alloc, faults.sink_call)?;
+    Ok(MemSink::new(alloc, 1 << 20, faults.grain.max(1), plan)?)
+}
+
+/// The words of a command.
+fn words_of(alloc: Global, words: &[&str]) -> Result<Vec<String>, Fail> {
+    let mut given = Vec::new(alloc);
+    for word in words {
+        given.push(String::from_str(alloc, *word)?)?;
+    }
+    Ok(given)
+}
+
+/// What a run with this status left in a sink and in a journal.
+fn ran_of(alloc: Global, status: u8, sink: &MemSink, journal: Journal) -> Result<Ran, Fail> {
+    let written = Vec::from_slice(alloc, sink.written())?;
+    Ok(Ran {
+        status,
+        written,
+        journal,
+    })
+}
+
 /// The same through a gate.
 pub fn run_through<G: Gate>(
     rt: &impl Abort,
@@ -60,29 +95,56 @@ pub fn run_through<G: Gate>(
     faults: Faults,
     gate: &G,
 ) -> Result<Ran, Fail> {
-    let mut files = Vec::new(alloc);
-    files.push((String::from_str(alloc, "app")?, Bytes::copy(alloc, text)?))?;
-    let twins = MemShelf::has_twins(&files);
-    assert!(rt; !twins);
-    let grain = faults.grain.max(1);
-    let mut shelf = MemShelf::new(files, grain, plan(alloc, faults.shelf_call)?);
-    let mut sink = MemSink::new(alloc, 1 << 20, grain, plan(alloc, faults.sink_call)?)?;
-    let mut given = Vec::new(alloc);
-    for word in words {
-        given.push(String::from_str(alloc, *word)?)?;
-    }
+    let given = words_of(alloc, words)?;
+    let mut shelf = shelf_of(rt, alloc, text, faults)?;
+    let mut sink = sink_of(alloc, faults)?;
     let mut journal = Journal::new(alloc);
     let status = run(alloc, &given, &mut shelf, &mut sink, gate, &mut journal);
-    Ok(Ran {
-        status,
-        written: Vec::from_slice(alloc, sink.written())?,
-        journal,
-    })
+    ran_of(alloc, status, &sink, journal)
 }
 
 /// Runs `osal-run app` on this text.
 pub fn run_text(rt: &impl Abort, alloc: Global, text: &[u8]) -> Result<Ran, Fail> {
     run_words(rt, alloc, &["app"], text, NO_FAULTS)
+}
+
+/// Whether a run on this text has this status and output.
+pub fn has_output(
+    rt: &impl Abort,
+    alloc: Global,
+    text: &str,
+    status: u8,
+    output: &str,
+) -> Result<bool, Fail> {
+    let ran = run_text(rt, alloc, text.as_bytes())?;
+    Ok(ran.status == status && ran.written.as_slice() == output.as_bytes())
+}
+
+/// Whether a run with these words has this status and output, and makes no call.
+pub fn makes_no_call(
+    rt: &impl Abort,
+    alloc: Global,
+    words: &[&str],
+    text: &[u8],
+    faults: Faults,
+    status: u8,
+    output: &str,
+) -> Result<bool, Fail> {
+    let ran = run_words(rt, alloc, words, text, faults)?;
+    let same = ran.status == status && ran.written.as_slice() == output.as_bytes();
+    Ok(same && ran.journal.len() == 0)
+}
+
+/// An application: what it shows, its text, its status and its output.
+pub type Row = (&'static str, &'static str, u8, &'static str);
+
+/// Each application has its status and its output.
+pub fn follow(rt: &impl Abort, alloc: Global, rows: &[Row]) -> Result<(), Fail> {
+    for (name, text, status, output) in rows {
+        let same = has_output(rt, alloc, *text, *status, *output)?;
+        assert!(rt; same, "{name}");
+    }
+    Ok(())
 }
 
 /// An entry: the name of its call, its caller, its task, its moment, its answer and its number.
@@ -104,20 +166,23 @@ fn name_of(call: &Call) -> &'static str {
     }
 }
 
-/// The journal has just these entries, and no reply has bytes.
-pub fn has_entries(rt: &impl Abort, journal: &Journal, wanted: &[Told]) {
-    assert_eq!(rt; journal.entries().len(), wanted.len());
-    for (entry, (name, caller, task, now, answer, number)) in journal
-        .entries()
-        .iter()
-        .zip(wanted.iter())
-    {
-        assert!(rt; name_of(&entry.call) == *name);
-        assert_eq!(rt; entry.caller, *caller);
-        assert_eq!(rt; entry.task.raw(), *task);
-        assert_eq!(rt; entry.now.ms, *now);
-        assert!(rt; entry.reply.answer == *answer);
-        assert_eq!(rt; entry.reply.number, *number);
-        assert_eq!(rt; entry.reply.bytes.as_slice().len(), 0);
+/// Whether an entry is this one, with no bytes in its reply.
+fn is_told(entry: &Entry, told: &Told) -> bool {
+    let (name, caller, task, now, answer, number) = *told;
+    let made = name_of(&entry.call) == name
+        && entry.caller == caller
+        && entry.task.raw() == task
+        && entry.now.ms == now;
+    let reply = &entry.reply;
+    made && reply.answer == answer && reply.number == number && reply.bytes.as_slice().is_empty()
+}
+
+/// Whether a journal has just these entries, and no reply has bytes.
+pub fn has_entries(journal: &Journal, wanted: &[Told]) -> bool {
+    for (entry, told) in journal.entries().iter().zip(wanted.iter()) {
+        if !is_told(entry, told) {
+            return false;
+        }
     }
+    journal.entries().len() == wanted.len()
 }

@@ -1,14 +1,13 @@
 //! Applications with mutexes and condition variables, with their outputs, to the byte.
 
-use crate::fixture::run_text;
+use crate::fixture::{Row, follow};
 use std::test::Fail;
 
-#[test]
-fn each_application_with_locks_has_its_output(rt: HostRuntime) -> Result<(), Fail> {
-    let rows = [
-        (
-            "a mutex is taken twice and given twice",
-            "osal-app 1
+/// Applications with mutexes and condition variables.
+const APPLICATIONS: [Row; 5] = [
+    (
+        "a mutex is taken twice and given twice",
+        "osal-app 1
 task main
 mut_sem_create $m \"m\" -> OS_SUCCESS 0x00050001
 mut_sem_take $m -> OS_SUCCESS
@@ -18,8 +17,8 @@ mut_sem_give $m -> OS_SUCCESS
 mut_sem_give $m -> OS_SEM_FAILURE
 end
 ",
-            0,
-            "[BEGIN] 0x00010001 main
+        0,
+        "[BEGIN] 0x00010001 main
 [ PASS] 1 line 3 mut_sem_create OS_SUCCESS 0x00050001
 [ PASS] 2 line 4 mut_sem_take OS_SUCCESS
 [ PASS] 3 line 5 mut_sem_take OS_SUCCESS
@@ -29,10 +28,10 @@ end
 [  END] 0x00010001 main DONE PASS 6 FAIL 0
 [TOTAL] TASKS 1 PASS 6 FAIL 0
 ",
-        ),
-        (
-            "a second task waits for a mutex that is owned",
-            "osal-app 1
+    ),
+    (
+        "a second task waits for a mutex that is owned",
+        "osal-app 1
 task main
 mut_sem_create $m \"m\"
 mut_sem_take $m
@@ -50,8 +49,8 @@ mut_sem_take $m -> OS_SUCCESS
 mut_sem_give $m -> OS_SUCCESS
 end
 ",
-            0,
-            "[BEGIN] 0x00010001 main
+        0,
+        "[BEGIN] 0x00010001 main
 [ PASS] 1 line 7 mut_sem_delete OS_ERR_OBJECT_IN_USE
 [ PASS] 2 line 8 mut_sem_give OS_SUCCESS
 [ PASS] 3 line 10 mut_sem_delete OS_SUCCESS
@@ -63,10 +62,10 @@ end
 [  END] 0x00010002 w DONE PASS 3 FAIL 0
 [TOTAL] TASKS 2 PASS 6 FAIL 0
 ",
-        ),
-        (
-            "a signal, a timeout, and an unlock by a task that has not the lock",
-            "osal-app 1
+    ),
+    (
+        "a signal, a timeout, and an unlock by a task that has not the lock",
+        "osal-app 1
 task main
 condvar_create $c \"c\"
 task_create $t \"w\" w 0 1
@@ -86,8 +85,8 @@ condvar_unlock $c -> OS_SUCCESS
 condvar_unlock $c -> OS_SEM_FAILURE
 end
 ",
-            0,
-            "[BEGIN] 0x00010001 main
+        0,
+        "[BEGIN] 0x00010001 main
 [ PASS] 1 line 7 condvar_signal OS_SUCCESS
 [  END] 0x00010001 main DONE PASS 1 FAIL 0
 [BEGIN] 0x00010002 w
@@ -99,10 +98,10 @@ end
 [  END] 0x00010002 w DONE PASS 5 FAIL 0
 [TOTAL] TASKS 2 PASS 6 FAIL 0
 ",
-        ),
-        (
-            "a broadcast releases two tasks",
-            "osal-app 1
+    ),
+    (
+        "a broadcast releases two tasks",
+        "osal-app 1
 task main
 condvar_create $c \"c\"
 task_create $t \"a\" w 0 1
@@ -119,8 +118,8 @@ condvar_wait $c pend -> OS_SUCCESS
 condvar_unlock $c -> OS_SUCCESS
 end
 ",
-            0,
-            "[BEGIN] 0x00010001 main
+        0,
+        "[BEGIN] 0x00010001 main
 [ PASS] 1 line 7 condvar_broadcast OS_SUCCESS
 [ PASS] 2 line 9 condvar_delete OS_SUCCESS
 [  END] 0x00010001 main DONE PASS 2 FAIL 0
@@ -134,10 +133,10 @@ end
 [  END] 0x00010003 b DONE PASS 2 FAIL 0
 [TOTAL] TASKS 3 PASS 6 FAIL 0
 ",
-        ),
-        (
-            "a mutex that a deleted task owned stays owned",
-            "osal-app 1
+    ),
+    (
+        "a mutex that a deleted task owned stays owned",
+        "osal-app 1
 task main
 mut_sem_create $m \"m\"
 task_create $t \"w\" w 0 1
@@ -153,8 +152,8 @@ mut_sem_take $m -> OS_SUCCESS
 task_delay 100
 end
 ",
-            3,
-            "[BEGIN] 0x00010001 main
+        3,
+        "[BEGIN] 0x00010001 main
 [ PASS] 1 line 6 task_delete OS_SUCCESS
 [ PASS] 2 line 8 mut_sem_delete OS_ERR_OBJECT_IN_USE
 [STALL] line 9 mut_sem_take
@@ -164,12 +163,10 @@ end
 [  END] 0x00010002 w DELETED PASS 1 FAIL 0
 [TOTAL] TASKS 2 PASS 3 FAIL 0
 ",
-        ),
-    ];
-    for (name, text, status, output) in rows {
-        let ran = run_text(&rt, rt.alloc(), text.as_bytes())?;
-        assert_eq!(rt; ran.status, status, "{name}");
-        assert!(rt; ran.written.as_slice() == output.as_bytes(), "{name}");
-    }
-    Ok(())
+    ),
+];
+
+#[test]
+fn each_application_with_locks_has_its_output(rt: HostRuntime) -> Result<(), Fail> {
+    follow(&rt, rt.alloc(), &APPLICATIONS)
 }

@@ -3,6 +3,8 @@
 use crate::fixture::{NO_FAULTS, run_through};
 use osal_base::OsalId;
 use osal_exec::Gate;
+use std::alloc::Global;
+use std::process::Abort;
 use std::sync::atomic::{AtomicBool, Ordering};
 use std::test::Fail;
 
@@ -47,14 +49,7 @@ impl Gate for Meeting {
     }
 }
 
-#[test]
-fn two_tasks_on_one_thread_do_not_meet(rt: HostRuntime) -> Result<(), Fail> {
-    let gate = Meeting {
-        first: AtomicBool::new(false),
-        second: AtomicBool::new(false),
-        missed: AtomicBool::new(false),
-    };
-    let text = "osal-app 1
+const TEXT: &str = "osal-app 1
 task main
 task_create $t \"a\" x 0 1
 task_create $t \"b\" y 0 1
@@ -66,7 +61,8 @@ task y
 bin_sem_create $s \"y\" 0 -> OS_SUCCESS
 end
 ";
-    let output = "[BEGIN] 0x00010001 main
+
+const OUTPUT: &str = "[BEGIN] 0x00010001 main
 [  END] 0x00010001 main DONE PASS 0 FAIL 0
 [BEGIN] 0x00010002 a
 [ PASS] 1 line 7 bin_sem_create OS_SUCCESS
@@ -76,9 +72,22 @@ end
 [  END] 0x00010003 b DONE PASS 1 FAIL 0
 [TOTAL] TASKS 3 PASS 2 FAIL 0
 ";
-    let ran = run_through(&rt, rt.alloc(), &["app"], text.as_bytes(), NO_FAULTS, &gate)?;
-    assert_eq!(rt; ran.status, 0);
-    assert!(rt; ran.written.as_slice() == output.as_bytes());
+
+/// Whether a run through the gate has its output.
+fn goes_through(rt: &impl Abort, alloc: Global, gate: &Meeting) -> Result<bool, Fail> {
+    let ran = run_through(rt, alloc, &["app"], TEXT.as_bytes(), NO_FAULTS, gate)?;
+    Ok(ran.status == 0 && ran.written.as_slice() == OUTPUT.as_bytes())
+}
+
+#[test]
+fn two_tasks_on_one_thread_do_not_meet(rt: HostRuntime) -> Result<(), Fail> {
+    let gate = Meeting {
+        first: AtomicBool::new(false),
+        second: AtomicBool::new(false),
+        missed: AtomicBool::new(false),
+    };
+    let same = goes_through(&rt, rt.alloc(), &gate)?;
+    assert!(rt; same);
     assert!(rt; gate.first.load(Ordering::SeqCst) && gate.second.load(Ordering::SeqCst));
     assert!(rt; gate.missed.load(Ordering::SeqCst));
     Ok(())

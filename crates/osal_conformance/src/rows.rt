@@ -1,6 +1,8 @@
 //! Applications with their outputs, to the byte.
 
-use crate::fixture::{NO_FAULTS, has_entries, run_text, run_words};
+use crate::fixture::{
+    NO_FAULTS, Row, Told, follow, has_entries, has_output, makes_no_call, run_text,
+};
 use osal_base::Answer;
 use std::alloc::Global;
 use std::process::Abort;
@@ -20,38 +22,37 @@ const FIRST_PATH_REPORT: &str = "[BEGIN] 0x00010001 main
 [TOTAL] TASKS 1 PASS 2 FAIL 0
 ";
 
-#[test]
-fn each_application_has_its_output(rt: HostRuntime) -> Result<(), Fail> {
-    let rows = [
-        ("the first path", FIRST_PATH, 0, FIRST_PATH_REPORT),
-        (
-            "an empty semaphore fails its case",
-            "osal-app 1
+/// Applications that pass and fail, and texts that are refused.
+const APPLICATIONS: [Row; 10] = [
+    ("the first path", FIRST_PATH, 0, FIRST_PATH_REPORT),
+    (
+        "an empty semaphore fails its case",
+        "osal-app 1
 task main
 bin_sem_create $s \"s\" 0 -> OS_SUCCESS 0x00040001
 bin_sem_take $s check -> OS_SUCCESS
 end
 ",
-            1,
-            "[BEGIN] 0x00010001 main
+        1,
+        "[BEGIN] 0x00010001 main
 [ PASS] 1 line 3 bin_sem_create OS_SUCCESS 0x00040001
 [ FAIL] 2 line 4 bin_sem_take OS_SEM_TIMEOUT expected OS_SUCCESS
 [  END] 0x00010001 main DONE PASS 1 FAIL 1
 [TOTAL] TASKS 1 PASS 1 FAIL 1
 ",
-        ),
-        (
-            "a body without a line",
-            "osal-app 1\r\ntask main\r\nend",
-            0,
-            "[BEGIN] 0x00010001 main
+    ),
+    (
+        "a body without a line",
+        "osal-app 1\r\ntask main\r\nend",
+        0,
+        "[BEGIN] 0x00010001 main
 [  END] 0x00010001 main DONE PASS 0 FAIL 0
 [TOTAL] TASKS 1 PASS 0 FAIL 0
 ",
-        ),
-        (
-            "names that are refused, and a register that was never set",
-            "osal-app 1
+    ),
+    (
+        "names that are refused, and a register that was never set",
+        "osal-app 1
 task main
 bin_sem_create $s \"abcdefghijklmnopqrst\" 1 -> OS_ERR_NAME_TOO_LONG
 bin_sem_create $s \"\" 1 -> OS_ERR_INVALID_ARGUMENT 0
@@ -62,8 +63,8 @@ bin_sem_take $s check -> 0 \"\"
 bin_sem_take $s check -> -7
 end
 ",
-            0,
-            "[BEGIN] 0x00010001 main
+        0,
+        "[BEGIN] 0x00010001 main
 [ PASS] 1 line 3 bin_sem_create OS_ERR_NAME_TOO_LONG
 [ PASS] 2 line 4 bin_sem_create OS_ERR_INVALID_ARGUMENT 0x00000000
 [ PASS] 3 line 5 bin_sem_create OS_ERR_INVALID_ARGUMENT
@@ -74,10 +75,10 @@ end
 [  END] 0x00010001 main DONE PASS 7 FAIL 0
 [TOTAL] TASKS 1 PASS 7 FAIL 0
 ",
-        ),
-        (
-            "a stale identifier, holds, information and finds",
-            "osal-app 1
+    ),
+    (
+        "a stale identifier, holds, information and finds",
+        "osal-app 1
 task main
 bin_sem_create $s \"s\" 0 -> OS_SUCCESS 0x00040001
 bin_sem_delete $s -> OS_SUCCESS
@@ -98,8 +99,8 @@ hold $u -> OS_ERR_INVALID_ID
 release $s -> OS_ERR_INVALID_ID
 end
 ",
-            0,
-            "[BEGIN] 0x00010001 main
+        0,
+        "[BEGIN] 0x00010001 main
 [ PASS] 1 line 3 bin_sem_create OS_SUCCESS 0x00040001
 [ PASS] 2 line 4 bin_sem_delete OS_SUCCESS
 [ PASS] 3 line 5 bin_sem_give OS_ERR_INVALID_ID
@@ -120,34 +121,32 @@ end
 [  END] 0x00010001 main DONE PASS 17 FAIL 0
 [TOTAL] TASKS 1 PASS 17 FAIL 0
 ",
-        ),
-        ("the empty file", "", 2, "osal-run: line 1: header\n"),
-        ("an empty line", "\n", 2, "osal-run: line 2: header\n"),
-        (
-            "a line cut short",
-            "osal-app 1\ntask main\nbin_sem_create $s \"s\"\nend\n",
-            2,
-            "osal-run: line 3: argument\n",
-        ),
-        (
-            "a call that is not built",
-            "osal-app 1\ntask main\nmkfs \"RAM0\" 64\nend\n",
-            2,
-            "osal-run: line 3: unbuilt\n",
-        ),
-        (
-            "a body that is left open",
-            "osal-app 1\ntask main\nbin_sem_take $s check\n",
-            2,
-            "osal-run: line 4: end\n",
-        ),
-    ];
-    for (name, text, status, output) in rows {
-        let ran = run_text(&rt, rt.alloc(), text.as_bytes())?;
-        assert_eq!(rt; ran.status, status, "{name}");
-        assert!(rt; ran.written.as_slice() == output.as_bytes(), "{name}");
-    }
-    Ok(())
+    ),
+    ("the empty file", "", 2, "osal-run: line 1: header\n"),
+    ("an empty line", "\n", 2, "osal-run: line 2: header\n"),
+    (
+        "a line cut short",
+        "osal-app 1\ntask main\nbin_sem_create $s \"s\"\nend\n",
+        2,
+        "osal-run: line 3: argument\n",
+    ),
+    (
+        "a call that is not built",
+        "osal-app 1\ntask main\nmkfs \"RAM0\" 64\nend\n",
+        2,
+        "osal-run: line 3: unbuilt\n",
+    ),
+    (
+        "a body that is left open",
+        "osal-app 1\ntask main\nbin_sem_take $s check\n",
+        2,
+        "osal-run: line 4: end\n",
+    ),
+];
+
+#[test]
+fn each_application_has_its_output(rt: HostRuntime) -> Result<(), Fail> {
+    follow(&rt, rt.alloc(), &APPLICATIONS)
 }
 
 #[test]
@@ -160,53 +159,56 @@ fn a_full_table_has_no_free_identifier(rt: HostRuntime) -> Result<(), Fail> {
     }
     text.push_str("bin_sem_create $s \"u\" 0 -> OS_ERR_NO_FREE_IDS\n")?;
     text.push_str("bin_sem_create $s \"a\" 0 -> OS_ERR_NAME_TAKEN\nend\n")?;
-    let ran = run_text(&rt, alloc, text.as_str().as_bytes())?;
-    assert_eq!(rt; ran.status, 0);
     let output = "[BEGIN] 0x00010001 main
 [ PASS] 1 line 23 bin_sem_create OS_ERR_NO_FREE_IDS
 [ PASS] 2 line 24 bin_sem_create OS_ERR_NAME_TAKEN
 [  END] 0x00010001 main DONE PASS 2 FAIL 0
 [TOTAL] TASKS 1 PASS 2 FAIL 0
 ";
-    assert!(rt; ran.written.as_slice() == output.as_bytes());
+    let same = has_output(&rt, alloc, text.as_str(), 0, output)?;
+    assert!(rt; same);
     Ok(())
 }
+
+/// The entries of the first path.
+const ENTRIES: [Told; 7] = [
+    ("task_create", 0, 0, 0, Answer::Code(0), 65537),
+    ("checkpoint", 2, 65537, 0, Answer::Go, 0),
+    ("bin_sem_create", 2, 65537, 0, Answer::Code(0), 262145),
+    ("checkpoint", 2, 65537, 0, Answer::Go, 0),
+    ("bin_sem_take", 2, 65537, 0, Answer::Code(0), 0),
+    ("checkpoint", 2, 65537, 0, Answer::Go, 0),
+    ("task_exit", 2, 65537, 0, Answer::Code(0), 0),
+];
 
 #[test]
 fn the_journal_has_each_call_with_its_reply(rt: HostRuntime) -> Result<(), Fail> {
     let ran = run_text(&rt, rt.alloc(), FIRST_PATH.as_bytes())?;
-    let wanted = [
-        ("task_create", 0, 0, 0, Answer::Code(0), 65537),
-        ("checkpoint", 2, 65537, 0, Answer::Go, 0),
-        ("bin_sem_create", 2, 65537, 0, Answer::Code(0), 262145),
-        ("checkpoint", 2, 65537, 0, Answer::Go, 0),
-        ("bin_sem_take", 2, 65537, 0, Answer::Code(0), 0),
-        ("checkpoint", 2, 65537, 0, Answer::Go, 0),
-        ("task_exit", 2, 65537, 0, Answer::Code(0), 0),
-    ];
-    has_entries(&rt, &ran.journal, &wanted);
+    assert!(rt; has_entries(&ran.journal, &ENTRIES));
     Ok(())
 }
 
 /// Whether these words get the usage text, and nothing is run.
-fn get_the_usage_text(rt: &impl Abort, alloc: Global, words: &[&str]) -> Result<(), Fail> {
-    let ran = run_words(rt, alloc, words, FIRST_PATH.as_bytes(), NO_FAULTS)?;
-    assert_eq!(rt; ran.status, 2);
+fn gets_usage(rt: &impl Abort, alloc: Global, words: &[&str]) -> Result<bool, Fail> {
     let usage = "usage: osal-run FILE | --journal FILE | --make N\n";
-    assert!(rt; ran.written.as_slice() == usage.as_bytes());
-    assert_eq!(rt; ran.journal.len(), 0);
-    Ok(())
+    makes_no_call(rt, alloc, words, FIRST_PATH.as_bytes(), NO_FAULTS, 2, usage)
 }
 
 #[test]
 fn other_words_get_the_usage_text(rt: HostRuntime) -> Result<(), Fail> {
-    let alloc = rt.alloc();
-    get_the_usage_text(&rt, alloc, &[])?;
-    get_the_usage_text(&rt, alloc, &["--journal", "app"])?;
-    get_the_usage_text(&rt, alloc, &["app", "--journal"])?;
-    get_the_usage_text(&rt, alloc, &["--make", "2"])?;
-    get_the_usage_text(&rt, alloc, &["-x"])?;
-    get_the_usage_text(&rt, alloc, &["-"])?;
-    get_the_usage_text(&rt, alloc, &[""])?;
-    get_the_usage_text(&rt, alloc, &["app", "app"])
+    let commands: [&[&str]; 8] = [
+        &[],
+        &["--journal", "app"],
+        &["app", "--journal"],
+        &["--make", "2"],
+        &["-x"],
+        &["-"],
+        &[""],
+        &["app", "app"],
+    ];
+    for (row, words) in commands.iter().enumerate() {
+        let usage = gets_usage(&rt, rt.alloc(), *words)?;
+        assert!(rt; usage, "row {row}");
+    }
+    Ok(())
 }

@@ -1,14 +1,13 @@
 //! Applications with counting semaphores, with their outputs, to the byte.
 
-use crate::fixture::run_text;
+use crate::fixture::{Row, follow};
 use std::test::Fail;
 
-#[test]
-fn each_application_with_counting_semaphores_has_its_output(rt: HostRuntime) -> Result<(), Fail> {
-    let rows = [
-        (
-            "two tasks take what is given",
-            "osal-app 1
+/// Applications with counting semaphores.
+const APPLICATIONS: [Row; 2] = [
+    (
+        "two tasks take what is given",
+        "osal-app 1
 task main
 count_sem_create $c \"c\" 0
 task_create $t \"a\" w 0 1
@@ -24,8 +23,8 @@ count_sem_find $c \"c\"
 count_sem_take $c pend -> OS_SUCCESS
 end
 ",
-            0,
-            "[BEGIN] 0x00010001 main
+        0,
+        "[BEGIN] 0x00010001 main
 [ PASS] 1 line 6 count_sem_take OS_SEM_TIMEOUT
 [ PASS] 2 line 10 count_sem_info OS_SUCCESS 0
 [  END] 0x00010001 main DONE PASS 2 FAIL 0
@@ -37,10 +36,10 @@ end
 [  END] 0x00010003 b DONE PASS 1 FAIL 0
 [TOTAL] TASKS 3 PASS 4 FAIL 0
 ",
-        ),
-        (
-            "the greatest value, holds and releases",
-            "osal-app 1
+    ),
+    (
+        "the greatest value, holds and releases",
+        "osal-app 1
 task main
 count_sem_create $c \"c\" 32768 -> OS_INVALID_SEM_VALUE
 count_sem_create $c \"c\" 32767 -> OS_SUCCESS
@@ -52,8 +51,8 @@ release $c -> OS_ERR_INCORRECT_OBJ_STATE
 count_sem_delete $c -> OS_SUCCESS
 end
 ",
-            0,
-            "[BEGIN] 0x00010001 main
+        0,
+        "[BEGIN] 0x00010001 main
 [ PASS] 1 line 3 count_sem_create OS_INVALID_SEM_VALUE
 [ PASS] 2 line 4 count_sem_create OS_SUCCESS
 [ PASS] 3 line 5 count_sem_give OS_SEM_FAILURE
@@ -65,12 +64,10 @@ end
 [  END] 0x00010001 main DONE PASS 8 FAIL 0
 [TOTAL] TASKS 1 PASS 8 FAIL 0
 ",
-        ),
-    ];
-    for (name, text, status, output) in rows {
-        let ran = run_text(&rt, rt.alloc(), text.as_bytes())?;
-        assert_eq!(rt; ran.status, status, "{name}");
-        assert!(rt; ran.written.as_slice() == output.as_bytes(), "{name}");
-    }
-    Ok(())
+    ),
+];
+
+#[test]
+fn each_application_with_counting_semaphores_has_its_output(rt: HostRuntime) -> Result<(), Fail> {
+    follow(&rt, rt.alloc(), &APPLICATIONS)
 }

@@ -1,15 +1,14 @@
 //! Applications of several tasks with their outputs, to the byte.
 
-use crate::fixture::run_text;
+use crate::fixture::{Row, follow, run_text};
 use std::alloc::Global;
 use std::test::Fail;
 
-#[test]
-fn each_application_of_several_tasks_has_its_output(rt: HostRuntime) -> Result<(), Fail> {
-    let rows = [
-        (
-            "priorities, stack sizes and delays",
-            "osal-app 1
+/// Applications of several tasks.
+const APPLICATIONS: [Row; 6] = [
+    (
+        "priorities, stack sizes and delays",
+        "osal-app 1
 task main
 task_create $t \"a\" w 1024 100 -> OS_SUCCESS 0x00010002
 task_info $t -> OS_SUCCESS 262244
@@ -23,8 +22,8 @@ task w
 task_delay 10 -> OS_SUCCESS
 end
 ",
-            0,
-            "[BEGIN] 0x00010001 main
+        0,
+        "[BEGIN] 0x00010001 main
 [ PASS] 1 line 3 task_create OS_SUCCESS 0x00010002
 [ PASS] 2 line 4 task_info OS_SUCCESS 262244
 [ PASS] 3 line 5 task_set_priority OS_ERR_INVALID_PRIORITY
@@ -37,10 +36,10 @@ end
 [  END] 0x00010002 a DONE PASS 1 FAIL 0
 [TOTAL] TASKS 2 PASS 7 FAIL 0
 ",
-        ),
-        (
-            "a task is deleted while it waits, and gives its hold back",
-            "osal-app 1
+    ),
+    (
+        "a task is deleted while it waits, and gives its hold back",
+        "osal-app 1
 task main
 bin_sem_create $s \"s\" 0
 task_create $t \"w\" w 0 1
@@ -56,8 +55,8 @@ bin_sem_find $s \"s\"
 bin_sem_take $s pend
 end
 ",
-            0,
-            "[BEGIN] 0x00010001 main
+        0,
+        "[BEGIN] 0x00010001 main
 [ PASS] 1 line 6 bin_sem_delete OS_ERR_OBJECT_IN_USE
 [ PASS] 2 line 7 task_delete OS_SUCCESS
 [ PASS] 3 line 8 task_delete OS_ERR_INCORRECT_OBJ_STATE
@@ -67,10 +66,10 @@ end
 [  END] 0x00010002 w DELETED PASS 0 FAIL 0
 [TOTAL] TASKS 2 PASS 4 FAIL 0
 ",
-        ),
-        (
-            "a flush releases the tasks that wait and leaves the value",
-            "osal-app 1
+    ),
+    (
+        "a flush releases the tasks that wait and leaves the value",
+        "osal-app 1
 task main
 bin_sem_create $s \"s\" 0
 task_create $t \"a\" w 0 1
@@ -84,8 +83,8 @@ bin_sem_find $s \"s\"
 bin_sem_take $s pend -> OS_SUCCESS
 end
 ",
-            0,
-            "[BEGIN] 0x00010001 main
+        0,
+        "[BEGIN] 0x00010001 main
 [ PASS] 1 line 7 bin_sem_flush OS_SUCCESS
 [ PASS] 2 line 8 bin_sem_info OS_SUCCESS 0
 [  END] 0x00010001 main DONE PASS 2 FAIL 0
@@ -97,10 +96,10 @@ end
 [  END] 0x00010003 b DONE PASS 1 FAIL 0
 [TOTAL] TASKS 3 PASS 4 FAIL 0
 ",
-        ),
-        (
-            "two tasks wait for ever",
-            "osal-app 1
+    ),
+    (
+        "two tasks wait for ever",
+        "osal-app 1
 task main
 bin_sem_create $a \"a\" 0
 bin_sem_create $b \"b\" 0
@@ -112,8 +111,8 @@ bin_sem_find $b \"b\"
 bin_sem_take $b pend
 end
 ",
-            3,
-            "[BEGIN] 0x00010001 main
+        3,
+        "[BEGIN] 0x00010001 main
 [STALL] line 6 bin_sem_take
 [  END] 0x00010001 main STALLED PASS 0 FAIL 0
 [BEGIN] 0x00010002 w
@@ -121,26 +120,26 @@ end
 [  END] 0x00010002 w STALLED PASS 0 FAIL 0
 [TOTAL] TASKS 2 PASS 0 FAIL 0
 ",
-        ),
-        (
-            "a wait that stands wins over a case that fails",
-            "osal-app 1
+    ),
+    (
+        "a wait that stands wins over a case that fails",
+        "osal-app 1
 task main
 bin_sem_create $a \"a\" 0 -> OS_ERROR
 bin_sem_take $a pend -> OS_SUCCESS
 end
 ",
-            3,
-            "[BEGIN] 0x00010001 main
+        3,
+        "[BEGIN] 0x00010001 main
 [ FAIL] 1 line 3 bin_sem_create OS_SUCCESS expected OS_ERROR
 [STALL] line 4 bin_sem_take
 [  END] 0x00010001 main STALLED PASS 0 FAIL 1
 [TOTAL] TASKS 1 PASS 0 FAIL 1
 ",
-        ),
-        (
-            "the serials of a table begin anew",
-            "osal-app 1
+    ),
+    (
+        "the serials of a table begin anew",
+        "osal-app 1
 task main
 repeat 65600
 bin_sem_create $s \"s\" 0
@@ -149,20 +148,18 @@ end
 bin_sem_create $s \"s\" 0 -> OS_SUCCESS 0x00040051
 end
 ",
-            0,
-            "[BEGIN] 0x00010001 main
+        0,
+        "[BEGIN] 0x00010001 main
 [ PASS] 1 line 7 bin_sem_create OS_SUCCESS 0x00040051
 [  END] 0x00010001 main DONE PASS 1 FAIL 0
 [TOTAL] TASKS 1 PASS 1 FAIL 0
 ",
-        ),
-    ];
-    for (name, text, status, output) in rows {
-        let ran = run_text(&rt, rt.alloc(), text.as_bytes())?;
-        assert_eq!(rt; ran.status, status, "{name}");
-        assert!(rt; ran.written.as_slice() == output.as_bytes(), "{name}");
-    }
-    Ok(())
+    ),
+];
+
+#[test]
+fn each_application_of_several_tasks_has_its_output(rt: HostRuntime) -> Result<(), Fail> {
+    follow(&rt, rt.alloc(), &APPLICATIONS)
 }
 
 /// An application in which one identifier is issued twice: 62 tasks stay, and one slot is used 1,024 times.
@@ -195,7 +192,7 @@ end
 fn an_identifier_that_is_issued_twice_has_two_segments(rt: HostRuntime) -> Result<(), Fail> {
     let text = one_slot_again(rt.alloc())?;
     let ran = run_text(&rt, rt.alloc(), text.as_bytes())?;
-    assert_eq!(rt; ran.status, 0);
+    assert!(rt; ran.status == 0);
     assert!(rt;
         ran.written
             .as_slice()
@@ -204,26 +201,26 @@ fn an_identifier_that_is_issued_twice_has_two_segments(rt: HostRuntime) -> Resul
     Ok(())
 }
 
-#[test]
-fn an_application_costs_at_most_300000(rt: HostRuntime) -> Result<(), Fail> {
-    for (text, status, output) in [
-        (
-            "osal-app 1\ntask main\nrepeat 99999\nbin_sem_take $c pend\nend\nend\n",
-            0,
-            "[BEGIN] 0x00010001 main
+/// An application that costs as much as it may, and one that costs more.
+const COSTS: [Row; 2] = [
+    (
+        "the dearest application",
+        "osal-app 1\ntask main\nrepeat 99999\nbin_sem_take $c pend\nend\nend\n",
+        0,
+        "[BEGIN] 0x00010001 main
 [  END] 0x00010001 main DONE PASS 0 FAIL 0
 [TOTAL] TASKS 1 PASS 0 FAIL 0
 ",
-        ),
-        (
-            "osal-app 1\ntask main\nrepeat 100000\nbin_sem_take $c pend\nend\nend\n",
-            2,
-            "osal-run: application costs more than 300000\n",
-        ),
-    ] {
-        let ran = run_text(&rt, rt.alloc(), text.as_bytes())?;
-        assert_eq!(rt; ran.status, status);
-        assert!(rt; ran.written.as_slice() == output.as_bytes());
-    }
-    Ok(())
+    ),
+    (
+        "one that costs more",
+        "osal-app 1\ntask main\nrepeat 100000\nbin_sem_take $c pend\nend\nend\n",
+        2,
+        "osal-run: application costs more than 300000\n",
+    ),
+];
+
+#[test]
+fn an_application_costs_at_most_300000(rt: HostRuntime) -> Result<(), Fail> {
+    follow(&rt, rt.alloc(), &COSTS)
 }

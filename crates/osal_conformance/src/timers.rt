@@ -1,14 +1,13 @@
 //! Applications with timebases, timers and handlers, with their outputs, to the byte.
 
-use crate::fixture::run_text;
+use crate::fixture::{Row, follow};
 use std::test::Fail;
 
-#[test]
-fn each_application_with_timers_has_its_output(rt: HostRuntime) -> Result<(), Fail> {
-    let rows = [
-        (
-            "a timer fires once for three expiries, and its handler runs once",
-            "osal-app 1
+/// Applications with timebases, timers and handlers.
+const APPLICATIONS: [Row; 7] = [
+    (
+        "a timer fires once for three expiries, and its handler runs once",
+        "osal-app 1
 task main
 count_sem_create $c \"c\" 0
 timebase_create $b \"b\" -> OS_SUCCESS 0x00080001
@@ -24,8 +23,8 @@ count_sem_find $c \"c\"
 count_sem_give $c
 end
 ",
-            0,
-            "[BEGIN] 0x00010001 main
+        0,
+        "[BEGIN] 0x00010001 main
 [ PASS] 1 line 4 timebase_create OS_SUCCESS 0x00080001
 [ PASS] 2 line 5 timer_add OS_SUCCESS 0x00090001
 [ PASS] 3 line 6 timer_set OS_SUCCESS
@@ -36,10 +35,10 @@ end
 [  END] 0x00010001 main DONE PASS 7 FAIL 0
 [TOTAL] TASKS 1 PASS 7 FAIL 0
 ",
-        ),
-        (
-            "settings, one expiry alone, a start of 0, and what a timer tells",
-            "osal-app 1
+    ),
+    (
+        "settings, one expiry alone, a start of 0, and what a timer tells",
+        "osal-app 1
 task main
 timebase_create $b \"b\"
 timer_add $m \"m\" $b h
@@ -60,8 +59,8 @@ handler h
 bin_sem_find $s \"none\"
 end
 ",
-            0,
-            "[BEGIN] 0x00010001 main
+        0,
+        "[BEGIN] 0x00010001 main
 [ PASS] 1 line 5 timer_set OS_TIMER_ERR_INVALID_ARGS
 [ PASS] 2 line 7 timebase_tick OS_SUCCESS 0
 [ PASS] 3 line 8 timebase_tick OS_SUCCESS 1
@@ -75,10 +74,10 @@ end
 [  END] 0x00010001 main DONE PASS 10 FAIL 0
 [TOTAL] TASKS 1 PASS 10 FAIL 0
 ",
-        ),
-        (
-            "handlers run before the next line, in the order of attachment, each with registers of its own",
-            "osal-app 1
+    ),
+    (
+        "handlers run before the next line, in the order of attachment, each with registers of its own",
+        "osal-app 1
 task main
 timebase_create $b \"b\"
 timer_add $m \"first\" $b one
@@ -99,8 +98,8 @@ count_sem_give $c -> OS_SUCCESS
 count_sem_give $c -> OS_SUCCESS
 end
 ",
-            0,
-            "[BEGIN] 0x00010001 main
+        0,
+        "[BEGIN] 0x00010001 main
 [ PASS] 1 line 8 timebase_tick OS_SUCCESS 2
 [ PASS] 2 line 13 count_sem_create OS_SUCCESS 0x00030001
 [ PASS] 3 line 16 count_sem_give OS_ERR_INVALID_ID
@@ -112,10 +111,10 @@ end
 [  END] 0x00010001 main DONE PASS 8 FAIL 0
 [TOTAL] TASKS 1 PASS 8 FAIL 0
 ",
-        ),
-        (
-            "a task that is deleted in a handler makes no further line of it, nor of the next one",
-            "osal-app 1
+    ),
+    (
+        "a task that is deleted in a handler makes no further line of it, nor of the next one",
+        "osal-app 1
 task main
 task_create $t \"w\" w 0 1
 task_delay 1
@@ -136,8 +135,8 @@ task_delete $t -> OS_SUCCESS
 task_info $t -> OS_SUCCESS
 end
 ",
-            0,
-            "[BEGIN] 0x00010001 main
+        0,
+        "[BEGIN] 0x00010001 main
 [ PASS] 1 line 5 timebase_find OS_SUCCESS 0x00080001
 [  END] 0x00010001 main DONE PASS 1 FAIL 0
 [BEGIN] 0x00010002 w
@@ -147,10 +146,10 @@ end
 [  END] 0x00010002 w DELETED PASS 3 FAIL 0
 [TOTAL] TASKS 2 PASS 4 FAIL 0
 ",
-        ),
-        (
-            "a held timer and a held timebase stay, and stale identifiers are refused",
-            "osal-app 1
+    ),
+    (
+        "a held timer and a held timebase stay, and stale identifiers are refused",
+        "osal-app 1
 task main
 timebase_create $b \"b\"
 timer_add $m \"m\" $b h
@@ -171,8 +170,8 @@ end
 handler h
 end
 ",
-            0,
-            "[BEGIN] 0x00010001 main
+        0,
+        "[BEGIN] 0x00010001 main
 [ PASS] 1 line 5 hold OS_SUCCESS
 [ PASS] 2 line 6 timer_delete OS_ERR_OBJECT_IN_USE
 [ PASS] 3 line 7 release OS_SUCCESS
@@ -189,10 +188,10 @@ end
 [  END] 0x00010001 main DONE PASS 13 FAIL 0
 [TOTAL] TASKS 1 PASS 13 FAIL 0
 ",
-        ),
-        (
-            "the longest tick at the shortest interval, and the sum in 32 bits",
-            "osal-app 1
+    ),
+    (
+        "the longest tick at the shortest interval, and the sum in 32 bits",
+        "osal-app 1
 task main
 timebase_create $b \"b\"
 timer_add $m \"m\" $b h
@@ -205,8 +204,8 @@ end
 handler h
 end
 ",
-            0,
-            "[BEGIN] 0x00010001 main
+        0,
+        "[BEGIN] 0x00010001 main
 [ PASS] 1 line 6 timebase_tick OS_SUCCESS \"\\x00\\x09\\x00\\x01\\xff\\xff\\xff\\xfe\\x00\\x00\\x00\\x01\"
 [ PASS] 2 line 7 timebase_free_run OS_SUCCESS 4294967295
 [ PASS] 3 line 8 timebase_tick OS_SUCCESS 1
@@ -214,10 +213,10 @@ end
 [  END] 0x00010001 main DONE PASS 4 FAIL 0
 [TOTAL] TASKS 1 PASS 4 FAIL 0
 ",
-        ),
-        (
-            "ten times the dearest handler for each tick are too much",
-            "osal-app 1
+    ),
+    (
+        "ten times the dearest handler for each tick are too much",
+        "osal-app 1
 task main
 timebase_create $b \"b\"
 timer_add $m \"m\" $b h
@@ -230,15 +229,13 @@ bin_sem_find $s \"s\"
 bin_sem_find $s \"s\"
 end
 ",
-            2,
-            "osal-run: application costs more than 300000
+        2,
+        "osal-run: application costs more than 300000
 ",
-        ),
-    ];
-    for (name, text, status, output) in rows {
-        let ran = run_text(&rt, rt.alloc(), text.as_bytes())?;
-        assert_eq!(rt; ran.status, status, "{name}");
-        assert!(rt; ran.written.as_slice() == output.as_bytes(), "{name}");
-    }
-    Ok(())
+    ),
+];
+
+#[test]
+fn each_application_with_timers_has_its_output(rt: HostRuntime) -> Result<(), Fail> {
+    follow(&rt, rt.alloc(), &APPLICATIONS)
 }

@@ -3,19 +3,20 @@ use Rattle.std.proofs.Common.{◌≡◌, ◌||◌, ◌&&◌, ℕ, Bool, true, fa
 use Rattle.std.proofs.lemmas.Bool.{cond_both, false≢true, true≢false, not-true, not-false}
 use Rattle.osal_base.specs.declared.reply.Answer.{Answer}
 use Rattle.osal_base.specs.declared.reply.Answer.TheVariants as answer
-use Rattle.osal_base.specs.Reply.{Replied, is_waits, goes_on, deleted}
+use Rattle.osal_base.specs.declared.time.Moment.{Moment}
+use Rattle.osal_base.specs.Reply.{Replied, is_waits}
 use Rattle.osal_idtable.specs.Table.{Active}
-use Rattle.osal_idtable.specs.Objects.{delete_step}
-use Rattle.osal_idtable.proofs.WaitSteps.{end_waits}
+use Rattle.osal_object.specs.Outcomes.{Outcome, Go, Leave}
+use Rattle.osal_object.proofs.WaitSteps.{end_waits}
 use Rattle.osal_task.specs.declared.part.Task.{Task}
-use Rattle.osal_task.specs.Tasks.{TaskState, task_at, passed_by, goes, is_unmarked}
-use Rattle.osal_machine.specs.declared.call.Call.{Call}
-use Rattle.osal_machine.specs.declared.call.Call.TheVariants as call
-use Rattle.osal_machine.specs.Call.{said, part_of}
+use Rattle.osal_task.specs.Tasks.{TaskState, task_at, done, goes, is_unmarked}
+use Rattle.osal_call.specs.declared.call.Call.{Call}
+use Rattle.osal_call.specs.declared.call.Call.TheVariants as call
+use Rattle.osal_call.specs.Call.{said, part_of}
 use Rattle.osal_machine.specs.Step.{MachineState, part_in, step, is_ready}
 use Rattle.osal_machine.specs.OpenWaits.{has_wait}
-use Rattle.osal_machine.proofs.CallWaits.{near_part, end_at}
-use Rattle.osal_machine.proofs.DueCounts.{any_part}
+use Rattle.osal_laws.proofs.CallWaits.{near_part, end_at}
+use Rattle.osal_laws.proofs.DueCounts.{any_part}
 use Rattle.osal_line.specs.Exit.{is_exit_line}
 use Rattle.osal_script.specs.declared.phase.Phase.{Phase}
 use Rattle.osal_script.specs.declared.phase.Phase.TheVariants as phase
@@ -24,20 +25,21 @@ use Rattle.osal_script.specs.App.{ScriptBody}
 use Rattle.osal_script.specs.Script.{Pending, Frames, ScriptState, is_checkpoint, is_success, phase_after_checkpoint, IsCheckpointAnswer, MayCome, after_in, after_answer, is_ended}
 use Rattle.osal_runs.specs.Waiting.{waits_on_in, waits_on}
 use Rattle.osal_runs.specs.Linked.{IsLinkedAt, is_live, is_leaving}
+use Rattle.osal_runs.proofs.TaskCalls.{passed_by}
 use Rattle.osal_runs.proofs.ScriptCalls.{unsaid_checkpoint, unsaid_end}
 use Rattle.osal_exec.specs.Running.{can_run_in, is_lost_in}
 
 -- the checkpoint of an active task goes on or tells that it was deleted
-checkpoint_answers : (tasks : TaskState) (task : ℕ) (o : Option (Active Task)) → is_some o ≡ true → IsCheckpointAnswer (passed_by tasks task o).0.answer
-checkpoint_answers tasks task None active = absurd (false≢true active)
-checkpoint_answers tasks task (Some found) active =
-    cond_both found.object.marked (deleted, record { objects = (delete_step tasks.objects task).1 }) (goes_on, tasks) (λ (r : Replied × TaskState). IsCheckpointAnswer r.0.answer) (λ t. tt) (λ f. tt)
+checkpoint_answers : (tasks : TaskState) (task : ℕ) (now : Moment) (o : Option (Active Task)) → is_some o ≡ true → IsCheckpointAnswer (passed_by tasks task now o).0.answer
+checkpoint_answers tasks task now None active = absurd (false≢true active)
+checkpoint_answers tasks task now (Some found) active =
+    cond_both found.object.marked (Leave task) Go (λ (o : Outcome Task (Unit {0})). IsCheckpointAnswer (done tasks task now o).0.answer) (λ t. tt) (λ f. tt)
 
 -- the checkpoint of an active task that was deleted tells so
-checkpoint_tells : (tasks : TaskState) (task : ℕ) (o : Option (Active Task)) → is_some o ≡ true → is_unmarked o ≡ false → (passed_by tasks task o).0.answer ≡ answer.Deleted
-checkpoint_tells tasks task None active marked = absurd (false≢true active)
-checkpoint_tells tasks task (Some found) active marked =
-    cond_both found.object.marked (deleted, record { objects = (delete_step tasks.objects task).1 }) (goes_on, tasks) (λ (r : Replied × TaskState). r.0.answer ≡ answer.Deleted) (λ t. refl) (λ f. absurd (true≢false (sym (ap not f) ∙ marked)))
+checkpoint_tells : (tasks : TaskState) (task : ℕ) (now : Moment) (o : Option (Active Task)) → is_some o ≡ true → is_unmarked o ≡ false → (passed_by tasks task now o).0.answer ≡ answer.Deleted
+checkpoint_tells tasks task now None active marked = absurd (false≢true active)
+checkpoint_tells tasks task now (Some found) active marked =
+    cond_both found.object.marked (Leave task) Go (λ (o : Outcome Task (Unit {0})). (done tasks task now o).0.answer ≡ answer.Deleted) (λ t. refl) (λ f. absurd (true≢false (sym (ap not f) ∙ marked)))
 
 both_true : (a b : Bool) → a ≡ true → b ≡ true → (a && b) ≡ true
 both_true true b p q = q
@@ -48,7 +50,7 @@ pub may_go_on : (state : MachineState) (task : ℕ) (script : ScriptState) (made
 may_go_on state task script made phase.Before linked ready is =
     let same : said made ≡ call.Checkpoint = cc in (
       same,
-      subst (λ (c : Call). IsCheckpointAnswer (step state task state.time.moment c).0.answer) (sym (unsaid_checkpoint made same)) (checkpoint_answers state.tasks task (task_at state.tasks task) (linked.live refl)),
+      subst (λ (c : Call). IsCheckpointAnswer (step state task state.time.moment c).0.answer) (sym (unsaid_checkpoint made same)) (checkpoint_answers state.tasks task state.time.moment (task_at state.tasks task) (linked.live refl)),
     )
 may_go_on state task script made phase.At linked ready is = cc
 may_go_on state task script made (phase.Waiting part) linked ready is =
@@ -60,7 +62,7 @@ may_go_on state task script made phase.Ended linked ready is = absurd (false≢t
 -- the checkpoint of a task that waits, though it was deleted, may come
 pub may_leave : (state : MachineState) (task : ℕ) (script : ScriptState) (part : ℕ) → IsLinkedAt state task (phase.Waiting part) → goes state.tasks task ≡ false → MayCome (phase.Waiting part) script call.Checkpoint (step state task state.time.moment call.Checkpoint).0.answer
 may_leave state task script part linked lost =
-    inr (refl, checkpoint_tells state.tasks task (task_at state.tasks task) (linked.live refl) lost)
+    inr (refl, checkpoint_tells state.tasks task state.time.moment (task_at state.tasks task) (linked.live refl) lost)
 
 -- a script that makes a call is not at its end
 pub script_goes : (at : Phase) (script : ScriptState) (made : Call) (reply : Answer) → MayCome at script made reply → is_ended at ≡ false

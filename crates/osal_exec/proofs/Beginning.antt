@@ -7,12 +7,12 @@ use Rattle.osal_base.specs.Limits.{version1}
 use Rattle.osal_base.specs.Reply.{Replied}
 use Rattle.osal_base.specs.Text.{Text}
 use Rattle.osal_base.specs.declared.time.Moment.{Moment}
-use Rattle.osal_machine.specs.declared.call.Call.{Call}
-use Rattle.osal_machine.specs.declared.call.Call.TheVariants as call
-use Rattle.osal_machine.specs.declared.call.Entry.{Entry}
-use Rattle.osal_machine.specs.Call.{said, text_of}
+use Rattle.osal_call.specs.declared.call.Call.{Call}
+use Rattle.osal_call.specs.declared.call.Call.TheVariants as call
+use Rattle.osal_call.specs.declared.call.Entry.{Entry}
+use Rattle.osal_call.specs.Call.{said, text_of}
 use Rattle.osal_machine.specs.Step.{MachineState, opening, step}
-use Rattle.osal_machine.specs.Journal.{Entries}
+use Rattle.osal_call.specs.Journal.{Entries}
 use Rattle.osal_machine.specs.History.{replay}
 use Rattle.osal_script.specs.App.{Application, ScriptBody, NamesLater, HandlersAreBare}
 use Rattle.osal_script.specs.Cost.{cost_of}

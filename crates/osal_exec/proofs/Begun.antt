@@ -10,9 +10,9 @@ use Rattle.osal_idtable.specs.Table.{Active, is_slot_taken, active_at}
 use Rattle.osal_idtable.proofs.WellFormed.{missed}
 use Rattle.osal_task.specs.declared.part.Task.{Task}
 use Rattle.osal_task.specs.Tasks.{TaskState}
-use Rattle.osal_machine.specs.declared.call.Call.{Call}
-use Rattle.osal_machine.specs.declared.call.Call.TheVariants as call
-use Rattle.osal_machine.specs.declared.call.Entry.{Entry}
+use Rattle.osal_call.specs.declared.call.Call.{Call}
+use Rattle.osal_call.specs.declared.call.Call.TheVariants as call
+use Rattle.osal_call.specs.declared.call.Entry.{Entry}
 use Rattle.osal_machine.specs.Step.{MachineState, step}
 use Rattle.osal_script.specs.App.{Application, ScriptBody}
 use Rattle.osal_script.specs.Script.{is_success}
@@ -38,7 +38,7 @@ segment_new state id name bodies (Some body) free =
 -- what a call begins that succeeds
 begun_new : (app : Application) (state : MachineState) → state.tasks.objects.table.kind ≡ 1 → IsCapacity state.tasks.objects.table.capacity → (task : ℕ) (now : Moment) (made : Call) → is_success (step state task now made).0.answer ≡ true → AreNew state (begun_by app made (step state task now made).0.number)
 begun_new app state typed room task now (call.TaskCreate name body stack priority) good =
-    segment_new state (step state task now (call.TaskCreate name body stack priority)).0.number name.bytes app.bodies (slice_get app.bodies body) (fresh_task state.tasks typed room name.bytes body stack priority good)
+    segment_new state (step state task now (call.TaskCreate name body stack priority)).0.number name.bytes app.bodies (slice_get app.bodies body) (fresh_task state.tasks typed room task now name.bytes body stack priority good)
 begun_new app state typed room task now _ good = inl refl
 
 -- what an entry with the machine's reply begins

@@ -7,13 +7,13 @@ use Rattle.osal_base.specs.Limits.{version1, IsCapacity}
 use Rattle.osal_base.specs.Reply.{Replied}
 use Rattle.osal_base.specs.declared.time.Moment.{Moment}
 use Rattle.osal_task.specs.Tasks.{task_at}
-use Rattle.osal_machine.specs.declared.call.Call.{Call}
-use Rattle.osal_machine.specs.declared.call.Entry.{Entry}
-use Rattle.osal_machine.specs.Call.{said}
+use Rattle.osal_call.specs.declared.call.Call.{Call}
+use Rattle.osal_call.specs.declared.call.Entry.{Entry}
+use Rattle.osal_call.specs.Call.{said}
 use Rattle.osal_machine.specs.Step.{MachineState, opening, step}
-use Rattle.osal_machine.specs.Journal.{Entries}
+use Rattle.osal_call.specs.Journal.{Entries}
 use Rattle.osal_machine.specs.History.{replay}
-use Rattle.osal_machine.proofs.Histories.{replay_push}
+use Rattle.osal_laws.proofs.Histories.{replay_push}
 use Rattle.osal_script.specs.App.{Application}
 use Rattle.osal_script.specs.Script.{ScriptState, MayCome, IsNext, after_entry, is_ended}
 use Rattle.osal_runs.specs.Segments.{Segment, script_in, is_of, has_segment, joined, begun, recorded, segments_of}

@@ -8,21 +8,24 @@ use Rattle.osal_base.specs.declared.name.NameFault.{NameFault}
 use Rattle.osal_base.specs.declared.name.NameFault.TheVariants as fault
 use Rattle.osal_base.specs.declared.status.Status.TheVariants as status
 use Rattle.osal_base.specs.Name.{name_fault}
-use Rattle.osal_base.specs.Reply.{Replied, refusal}
+use Rattle.osal_base.specs.declared.time.Moment.{Moment}
+use Rattle.osal_base.specs.Reply.{Replied}
 use Rattle.osal_idtable.specs.declared.place.Place.{Place}
 use Rattle.osal_idtable.specs.declared.table.ReserveFault.{ReserveFault}
 use Rattle.osal_idtable.specs.Table.{TableState, Reserved, is_name_taken, is_slot_taken}
 use Rattle.osal_idtable.specs.Next.{next_place, place_of, candidates, is_free_at}
 use Rattle.osal_idtable.specs.Steps.{issue}
 use Rattle.osal_idtable.specs.Faults.{unless}
-use Rattle.osal_idtable.specs.Objects.{ObjectsState, created, create_step}
+use Rattle.osal_object.specs.Objects.{ObjectsState, created, create_step}
+use Rattle.osal_object.specs.Outcomes.{Outcome, Refuse, Make, carried_out}
 use Rattle.osal_idtable.proofs.Steps.{find_passes}
 use Rattle.osal_idtable.proofs.WellFormed.{small}
 use Rattle.osal_task.specs.declared.part.Task.{Task}
-use Rattle.osal_task.specs.Tasks.{TaskState, in_tasks, new_task, lowest_priority, task_create_step}
-use Rattle.osal_machine.specs.declared.call.Entry.{Entry}
+use Rattle.osal_task.specs.Tasks.{TaskState, in_tasks, new_task, done, task_create}
+use Rattle.osal_base.specs.Limits.{lowest_priority}
+use Rattle.osal_call.specs.declared.call.Entry.{Entry}
 use Rattle.osal_machine.specs.Step.{MachineState, opening}
-use Rattle.osal_machine.proofs.TasksKept.{shape_kept}
+use Rattle.osal_laws.proofs.TasksKept.{shape_kept}
 use Rattle.osal_machine.specs.History.{after_entry, replay_from, replay}
 use Rattle.osal_script.specs.Script.{is_success}
 
@@ -56,21 +59,22 @@ module _ {T W : Type 0} (objects : ObjectsState T W) (typed : objects.table.kind
       (λ f. fresh_at (next_place objects.table) refl)
 
 module _ (tasks : TaskState) (typed : tasks.objects.table.kind ≡ 1) (room : IsCapacity tasks.objects.table.capacity) where
-  module _ (name : List ℕ) (task : Task) where
+  module _ (caller : ℕ) (now : Moment) (name : List ℕ) (task : Task) where
     -- whether what a create of a task answered is success under an identifier with a free slot
     abbrev IsFreshTask : Replied × TaskState → Type 0
     IsFreshTask made = is_success made.0.answer ≡ true → IsFreeId tasks.objects.table made.0.number
 
-    fresh_under : (f : Option NameFault) → IsFreshTask (unless f tasks (cond (nat_lt lowest_priority task.priority) (refusal status.ErrInvalidPriority, tasks) (in_tasks (create_step tasks.objects name task))))
+    fresh_under : (f : Option NameFault) → IsFreshTask (in_tasks (unless f tasks.objects (carried_out tasks.objects caller now (cond (nat_lt lowest_priority task.priority) (Refuse status.ErrInvalidPriority) (Make name task)))))
     fresh_under (Some fault.Empty) = λ good. absurd (false≢true good)
     fresh_under (Some fault.TooLong) = λ good. absurd (false≢true good)
     fresh_under (Some fault.HasZero) = λ good. absurd (false≢true good)
     fresh_under None =
-        cond_both (nat_lt lowest_priority task.priority) _ _ IsFreshTask (λ t. λ good. absurd (false≢true good)) (λ f. fresh_object tasks.objects typed room name task)
+        cond_both (nat_lt lowest_priority task.priority) _ _ (λ (o : Outcome Task (Unit {0})). IsFreshTask (done tasks caller now o)) (λ t. λ good. absurd (false≢true good)) (λ f. fresh_object tasks.objects typed room name task)
 
   -- a new task has a slot that no task had
-  pub fresh_task : (name : List ℕ) (body stack priority : ℕ) → is_success (task_create_step tasks name body stack priority).0.answer ≡ true → IsFreeId tasks.objects.table (task_create_step tasks name body stack priority).0.number
-  fresh_task name body stack priority = fresh_under name (new_task body stack priority) (name_fault name)
+  pub fresh_task : (caller : ℕ) (now : Moment) (name : List ℕ) (body stack priority : ℕ) → is_success (done tasks caller now (task_create name body stack priority)).0.answer ≡ true → IsFreeId tasks.objects.table (done tasks caller now (task_create name body stack priority)).0.number
+  fresh_task caller now name body stack priority =
+      fresh_under caller now name (new_task body stack priority) (name_fault name)
 
 -- entries leave the number of slots
 replay_slots : (state : MachineState) (entries : List Entry) → (replay_from state entries).tasks.objects.table.capacity ≡ state.tasks.objects.table.capacity

@@ -1,8 +1,8 @@
 -- A driver that takes a call of a task has room for its entry, and goes on as it has come.
 use Rattle.std.proofs.Common.{◌≡◌, ◌<◌, ◌+◌, ◌-◌, ℕ, Option, Some, None, length, refl, subst, arith}
 use Rattle.std.specs.List.{AllByRecursion}
-use Rattle.osal_machine.specs.declared.call.Call.{Call}
-use Rattle.osal_machine.specs.declared.call.Entry.{Entry}
+use Rattle.osal_call.specs.declared.call.Call.{Call}
+use Rattle.osal_call.specs.declared.call.Entry.{Entry}
 use Rattle.osal_machine.specs.Step.{MachineState, step}
 use Rattle.osal_script.specs.App.{Application}
 use Rattle.osal_script.specs.Cost.{cost_of}

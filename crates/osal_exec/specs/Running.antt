@@ -3,9 +3,9 @@ use Rattle.std.specs.Prelude.{◌≡◌, ◌<◌, ◌^◌, List, [], ◌∷◌, 
 use Rattle.osal_base.specs.Identifier.{slot_of}
 use Rattle.osal_base.specs.Limits.{version1}
 use Rattle.osal_task.specs.Tasks.{goes}
-use Rattle.osal_machine.specs.declared.call.Call.{Call}
-use Rattle.osal_machine.specs.declared.call.Entry.{Entry}
-use Rattle.osal_machine.specs.Call.{said}
+use Rattle.osal_call.specs.declared.call.Call.{Call}
+use Rattle.osal_call.specs.declared.call.Entry.{Entry}
+use Rattle.osal_call.specs.Call.{said}
 use Rattle.osal_machine.specs.Step.{MachineState, step, is_ready}
 use Rattle.osal_script.specs.declared.phase.Phase.{Phase}
 use Rattle.osal_script.specs.declared.phase.Phase.TheVariants as phase

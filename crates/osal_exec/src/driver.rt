@@ -1,5 +1,7 @@
 //! The driver of an application's tasks, on one thread.
-ghost use Rattle.std.specs.Prelude.{◌≡◌, ◌≤◌, [], OnOk, OnErr};
+ghost use Rattle.std.specs.Prelude.{◌≡◌, ◌≤◌, [], None, replicate, OnOk, OnErr};
+ghost use Rattle.osal_base.specs.Limits.{version1};
+ghost use Rattle.osal_machine.specs.Step.{opening};
 ghost use Rattle.osal_script.specs.Cost.{cost_of};
 ghost use Rattle.osal_runs.specs.Runs.{IsPartRun, IsRun};
 ghost use Rattle.osal_exec.specs.declared.driver.Outcome.TheVariants as outcome;
@@ -7,7 +9,7 @@ ghost use Rattle.osal_exec.specs.declared.driver.Outcome.TheVariants as outcome;
 use crate::Gate;
 use crate::stage::Stage;
 use osal_base::OutOfMemory;
-use osal_machine::Journal;
+use osal_call::Journal;
 use osal_script::App;
 use std::alloc::Global;
 
@@ -18,6 +20,26 @@ pub enum Outcome {
     Settled,
     /// There was no memory to go on.
     OutOfMemory,
+}
+
+/// Runs the tasks on a stage that has just been opened, until the run is settled.
+fn run_on<'a, G: Gate>(
+    stage: &mut Stage<'a>,
+    alloc: Global,
+    app: &'a App,
+    gate: &G,
+    journal: &mut Journal,
+) -> Result<(), OutOfMemory>
+    requires machine { stage.old.whole ≡ opening version1 }
+    requires runners { stage.old.runners ≡ replicate 64 None }
+    requires empty { journal.old.entries ≡ [] }
+    requires room { cost_of app.now ≤ journal.old.spare }
+    ensures settled { OnOk result (IsRun app.now journal.new.entries) }
+    ensures memory { OnErr result (IsPartRun app.now journal.new.entries) }
+{
+    stage.begin(alloc, app, journal)?;
+    while stage.turn(alloc, app, gate, journal)? {}
+    Ok(())
 }
 
 /// Runs the tasks of an application until the run is settled.
@@ -34,9 +56,7 @@ fn run_tasks<G: Gate>(
 {
     journal.reserve(app.cost())?;
     let mut stage = Stage::open(alloc)?;
-    stage.begin(alloc, app, journal)?;
-    while stage.turn(alloc, app, gate, journal)? {}
-    Ok(())
+    run_on(&mut stage, alloc, app, gate, journal)
 }
 
 /// Runs an application in rounds, on a machine with the limits of version 1, in virtual time.

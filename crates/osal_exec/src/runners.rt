@@ -6,7 +6,7 @@ ghost use Rattle.osal_runs.specs.Segments.{begun};
 ghost use Rattle.osal_exec.specs.Running.{runner_at, slot_of_task, gone_on, with_entry, with_begun, IsIdentifier};
 
 use osal_base::{Answer, OsalId, OutOfMemory};
-use osal_machine::{Call, Entry};
+use osal_call::{Call, Entry};
 use osal_script::{App, Cursor};
 use std::alloc::Global;
 use std::marker::Model;

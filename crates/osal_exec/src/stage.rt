@@ -2,7 +2,7 @@
 ghost use Rattle.std.specs.Prelude.{◌≡◌, ◌<◌, ◌≤◌, true, false, [], None, length, replicate, MatchOption, IfOk, OnOk, OnErr};
 ghost use Rattle.osal_base.specs.Limits.{version1};
 ghost use Rattle.osal_machine.specs.Step.{opening};
-ghost use Rattle.osal_machine.specs.declared.call.Call.TheVariants.{Advance};
+ghost use Rattle.osal_call.specs.declared.call.Call.TheVariants.{Advance};
 ghost use Rattle.osal_script.specs.App.{NamesLater};
 ghost use Rattle.osal_script.specs.Cost.{cost_of};
 ghost use Rattle.osal_runs.specs.Segments.{segments_of};
@@ -14,7 +14,8 @@ ghost use Rattle.osal_exec.specs.Driving.{MakesEntry, drive_of, IsDriven, AddsEn
 use crate::Gate;
 use crate::runners::{Runners, SLOTS};
 use osal_base::{Bytes, Limits, OsalId, OutOfMemory, Reply, Room};
-use osal_machine::{Call, Entry, Journal, Whole};
+use osal_call::{Call, Entry, Journal};
+use osal_machine::Whole;
 use osal_script::{App, Phase, Step};
 use std::alloc::Global;
 
@@ -60,10 +61,12 @@ impl<'a> Stage<'a> {
         ensures machine { IfOk result (λ stage. stage.whole ≡ opening version1) }
         ensures runners { IfOk result (λ stage. stage.runners ≡ replicate 64 None) }
     {
+        let runners = Runners::new(alloc)?;
+        let whole = Whole::open(alloc, &Limits::version1())?;
         Ok(Stage {
-            whole: Whole::open(alloc, &Limits::version1())?,
+            whole,
             room: Room::new(),
-            runners: Runners::new(alloc)?,
+            runners,
         })
     }
 

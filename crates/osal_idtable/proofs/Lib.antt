@@ -1,5 +1,4 @@
 pub mod Course
-pub mod Deadlines
 pub mod Keyed
 pub mod Placed
 pub mod Lone
@@ -12,19 +11,3 @@ pub mod Looks
 pub mod Serials
 pub mod WellFormed
 pub mod Written
-pub mod ByCalls
-pub mod Activity
-pub mod ActiveOnce
-pub mod Tested
-pub mod Records
-pub mod Apart
-pub mod HeldEach
-pub mod Balance
-pub mod Counted
-pub mod CallersHold
-pub mod Shapes
-pub mod DueCounts
-pub mod OpenWaits
-pub mod WaitSteps
-pub mod MovedWaits
-pub mod SameObjects

@@ -15,13 +15,4 @@ pub mod Slots
 pub mod Sound
 pub mod SlotSteps
 pub mod Lends
-pub mod ObjectLends
 pub mod Faults
-pub mod Standing
-pub mod Tests
-pub mod Waits
-pub mod Deadlines
-pub mod Objects
-pub mod Waiting
-pub mod Moves
-pub mod ObjectLaws

@@ -6,4 +6,3 @@ pub mod Naming
 pub mod Arrows
 pub mod Declaring
 pub mod Creations
-pub mod Bare

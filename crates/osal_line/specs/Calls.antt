@@ -1,8 +1,8 @@
 -- The call that a line makes.
 use Rattle.std.specs.Prelude.{List, ℕ, Option, Some, None, slice_index}
-use Rattle.osal_machine.specs.declared.call.Call.{Call}
-use Rattle.osal_machine.specs.declared.call.Call.TheVariants as call
-use Rattle.osal_machine.specs.Call.{text_of}
+use Rattle.osal_call.specs.declared.call.Call.{Call}
+use Rattle.osal_call.specs.declared.call.Call.TheVariants as call
+use Rattle.osal_call.specs.Call.{text_of}
 use Rattle.osal_line.specs.declared.line.Line.{Line}
 use Rattle.osal_line.specs.declared.line.ScriptCall.{ScriptCall}
 use Rattle.osal_line.specs.declared.line.ScriptCall.TheVariants as script

@@ -1,4 +1,4 @@
-pub use Rattle.osal_machine.specs.Call
+pub use Rattle.osal_call.specs.Call
 pub mod Words
 pub mod Inside
 pub mod Values
@@ -19,11 +19,8 @@ pub mod Timebases
 pub mod Timers
 pub mod Grammar
 pub mod Expectation
-pub mod Handlers
 pub mod Between
 pub mod Bare
 pub mod Exit
 pub mod Calls
 pub mod Held
-pub mod Price
-pub mod Saturated

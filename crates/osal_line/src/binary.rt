@@ -1,22 +1,19 @@
 //! The call lines on binary semaphores.
 ghost use Rattle.std.specs.Prelude.{◌≡◌, map, option_map, IfOk};
-ghost use Rattle.osal_machine.specs.Call.{said};
+ghost use Rattle.osal_call.specs.Call.{said};
 ghost use Rattle.osal_line.specs.Binary as binary;
 ghost use Rattle.osal_line.specs.Calls as calls;
-ghost use Rattle.osal_line.specs.Saturated.{saturated};
-ghost use Rattle.osal_line.specs.Price as price;
 
 use crate::arguments::{id_and_wait, name_and_number, only_id, only_name};
 use crate::line::held_in;
-use crate::price::wait_cost;
 use crate::registers::Registers;
 use crate::{Literal, Register};
 use osal_base::{OutOfMemory, Timeout};
-use osal_machine::Call;
+use osal_call::Call;
 use std::alloc::Global;
 
 /// The calls on binary semaphores that a line may make.
-#[derive(Clone, Copy, Debug, PartialEq, Eq)]
+#[derive(Clone, Copy)]
 pub enum BinSemWord {
     Create,
     Give,
@@ -56,7 +53,7 @@ pub fn bin_sem_word(text: &[u8]) -> Option<BinSemWord>
 }
 
 /// A call on a binary semaphore.
-#[derive(Debug, Drop)]
+#[derive(Drop)]
 pub enum BinSemCall {
     Create {
         register: Register,
@@ -130,21 +127,6 @@ impl BinSemCall {
             | BinSemCall::Take { .. }
             | BinSemCall::Delete { .. }
             | BinSemCall::Info { .. } => None,
-        }
-    }
-
-    /// What its line costs beside its checkpoint and its call.
-    pub(crate) fn cost(&self) -> u64
-        ensures { result ≡ saturated (price.bin_sem_cost self.now) }
-    {
-        match self {
-            BinSemCall::Take { wait, .. } => wait_cost(*wait),
-            BinSemCall::Create { .. }
-            | BinSemCall::Give { .. }
-            | BinSemCall::Flush { .. }
-            | BinSemCall::Delete { .. }
-            | BinSemCall::Find { .. }
-            | BinSemCall::Info { .. } => 0,
         }
     }
 }

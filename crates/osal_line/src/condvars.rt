@@ -1,22 +1,19 @@
 //! The call lines on condition variables.
 ghost use Rattle.std.specs.Prelude.{◌≡◌, map, option_map, IfOk};
-ghost use Rattle.osal_machine.specs.Call.{said};
+ghost use Rattle.osal_call.specs.Call.{said};
 ghost use Rattle.osal_line.specs.Condvars as condvars;
 ghost use Rattle.osal_line.specs.Calls as calls;
-ghost use Rattle.osal_line.specs.Saturated.{saturated};
-ghost use Rattle.osal_line.specs.Price as price;
 
 use crate::arguments::{id_and_wait, only_id, only_name};
 use crate::line::held_in;
-use crate::price::wait_cost;
 use crate::registers::Registers;
 use crate::{Literal, Register};
 use osal_base::{OutOfMemory, Timeout};
-use osal_machine::Call;
+use osal_call::Call;
 use std::alloc::Global;
 
 /// The calls on condition variables that a line may make.
-#[derive(Clone, Copy, Debug, PartialEq, Eq)]
+#[derive(Clone, Copy)]
 pub enum CondvarWord {
     Create,
     Lock,
@@ -60,7 +57,7 @@ pub fn condvar_word(text: &[u8]) -> Option<CondvarWord>
 }
 
 /// A call on a condition variable.
-#[derive(Debug, Drop)]
+#[derive(Drop)]
 pub enum CondvarCall {
     Create { register: Register, name: Literal },
     Lock { id: Register },
@@ -120,22 +117,6 @@ impl CondvarCall {
             | CondvarCall::Broadcast { .. }
             | CondvarCall::Wait { .. }
             | CondvarCall::Delete { .. } => None,
-        }
-    }
-
-    /// What its line costs beside its checkpoint and its call.
-    pub(crate) fn cost(&self) -> u64
-        ensures { result ≡ saturated (price.condvar_cost self.now) }
-    {
-        match self {
-            CondvarCall::Lock { .. } => wait_cost(Timeout::Pend),
-            CondvarCall::Wait { wait, .. } => wait_cost(*wait),
-            CondvarCall::Create { .. }
-            | CondvarCall::Unlock { .. }
-            | CondvarCall::Signal { .. }
-            | CondvarCall::Broadcast { .. }
-            | CondvarCall::Delete { .. }
-            | CondvarCall::Find { .. } => 0,
         }
     }
 }

@@ -1,22 +1,19 @@
 //! The call lines on counting semaphores.
 ghost use Rattle.std.specs.Prelude.{◌≡◌, map, option_map, IfOk};
-ghost use Rattle.osal_machine.specs.Call.{said};
+ghost use Rattle.osal_call.specs.Call.{said};
 ghost use Rattle.osal_line.specs.Counting as counting;
 ghost use Rattle.osal_line.specs.Calls as calls;
-ghost use Rattle.osal_line.specs.Saturated.{saturated};
-ghost use Rattle.osal_line.specs.Price as price;
 
 use crate::arguments::{id_and_wait, name_and_number, only_id, only_name};
 use crate::line::held_in;
-use crate::price::wait_cost;
 use crate::registers::Registers;
 use crate::{Literal, Register};
 use osal_base::{OutOfMemory, Timeout};
-use osal_machine::Call;
+use osal_call::Call;
 use std::alloc::Global;
 
 /// The calls on counting semaphores that a line may make.
-#[derive(Clone, Copy, Debug, PartialEq, Eq)]
+#[derive(Clone, Copy)]
 pub enum CountSemWord {
     Create,
     Give,
@@ -52,7 +49,7 @@ pub fn count_sem_word(text: &[u8]) -> Option<CountSemWord>
 }
 
 /// A call on a counting semaphore.
-#[derive(Debug, Drop)]
+#[derive(Drop)]
 pub enum CountSemCall {
     Create {
         register: Register,
@@ -119,20 +116,6 @@ impl CountSemCall {
             | CountSemCall::Take { .. }
             | CountSemCall::Delete { .. }
             | CountSemCall::Info { .. } => None,
-        }
-    }
-
-    /// What its line costs beside its checkpoint and its call.
-    pub(crate) fn cost(&self) -> u64
-        ensures { result ≡ saturated (price.count_sem_cost self.now) }
-    {
-        match self {
-            CountSemCall::Take { wait, .. } => wait_cost(*wait),
-            CountSemCall::Create { .. }
-            | CountSemCall::Give { .. }
-            | CountSemCall::Delete { .. }
-            | CountSemCall::Find { .. }
-            | CountSemCall::Info { .. } => 0,
         }
     }
 }

@@ -10,7 +10,7 @@ use osal_base::OutOfMemory;
 use std::alloc::Global;
 
 /// The value that a line expects beside its code.
-#[derive(Debug, Drop)]
+#[derive(Drop)]
 pub enum Value {
     /// Compared with the reply's number.
     Number(u64),
@@ -19,7 +19,7 @@ pub enum Value {
 }
 
 /// What a line expects of its answer.
-#[derive(Debug, Drop)]
+#[derive(Drop)]
 pub struct Expect {
     pub code: i32,
     pub value: Option<Value>,

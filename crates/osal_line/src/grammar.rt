@@ -19,7 +19,7 @@ use osal_base::OutOfMemory;
 use std::alloc::Global;
 
 /// The calls that a line may make.
-#[derive(Clone, Copy, Debug, PartialEq, Eq)]
+#[derive(Clone, Copy)]
 pub enum CallWord {
     Task(TaskWord),
     Queue(QueueWord),
@@ -34,7 +34,7 @@ pub enum CallWord {
 }
 
 /// What a line is, by its first word.
-#[derive(Clone, Copy, Debug, PartialEq, Eq)]
+#[derive(Clone, Copy)]
 pub enum FirstWord {
     /// `osal-app`.
     Header,

@@ -1,4 +1,4 @@
-//! Call lines: their words, what they call, and what they cost.
+//! Call lines: their words, and what they call.
 #![tactic(auto)]
 
 mod arguments;
@@ -8,13 +8,11 @@ mod counting;
 mod declarations;
 mod expectation;
 mod grammar;
-mod handlers;
 mod kind;
 mod line;
 mod literal;
 mod mutexes;
 mod payload;
-mod price;
 mod queues;
 mod register;
 mod registers;
@@ -27,22 +25,20 @@ mod vocabulary;
 mod words;
 
 pub use binary::BinSemCall;
-pub use condvars::CondvarCall;
+pub use condvars::{CondvarCall, CondvarWord};
 pub use counting::CountSemCall;
 pub use declarations::Declarations;
 pub use expectation::{Expect, Value, arrow_place, expectation_of};
 pub use grammar::{CallWord, FirstWord, call_of_words};
-pub use handlers::{is_handler, may_wait, needs_task};
 pub use kind::BodyKind;
 pub use line::{Line, ScriptCall, call_made, part_made, set_register};
 pub use literal::Literal;
-pub use mutexes::MutexCall;
-pub use price::{Prices, line_cost};
+pub use mutexes::{MutexCall, MutexWord};
 pub use queues::QueueCall;
 pub use register::{REGISTER_LIMIT, Register};
 pub use registers::Registers;
-pub use tasks::TaskCall;
-pub use timebases::TimebaseCall;
+pub use tasks::{TaskCall, TaskWord};
+pub use timebases::{TimebaseCall, TimebaseWord};
 pub use timers::TimerCall;
 pub use values::{is_body_name, number_of};
 pub use vocabulary::first_word;

@@ -1,8 +1,8 @@
 //! A call line: what it calls, and what its reply leaves in the registers.
 ghost use Rattle.std.specs.Prelude.{◌≡◌, IfOk, option_copied, slice_index};
 ghost use Rattle.osal_base.specs.Reply.{reply_of};
-ghost use Rattle.osal_machine.specs.Call as machine;
-ghost use Rattle.osal_machine.specs.Call.{said};
+ghost use Rattle.osal_call.specs.Call as machine;
+ghost use Rattle.osal_call.specs.Call.{said};
 ghost use Rattle.osal_line.specs.Bare.{is_tick_line};
 ghost use Rattle.osal_line.specs.Calls as calls;
 ghost use Rattle.osal_line.specs.Held.{registers_after};
@@ -17,11 +17,11 @@ use crate::timebases::TimebaseCall;
 use crate::timers::TimerCall;
 use crate::{Expect, Register};
 use osal_base::{Answer, OsalId, OutOfMemory, Reply};
-use osal_machine::{Call, part_of};
+use osal_call::{Call, part_of};
 use std::alloc::Global;
 
 /// A call as a line writes it: registers stand where identifiers will.
-#[derive(Debug, Drop)]
+#[derive(Drop)]
 pub enum ScriptCall {
     Task(TaskCall),
     Queue(QueueCall),
@@ -36,7 +36,7 @@ pub enum ScriptCall {
 }
 
 /// A call line.
-#[derive(Debug, Drop)]
+#[derive(Drop)]
 pub struct Line {
     /// Its number in the file, from 1.
     pub number: u32,

@@ -6,7 +6,7 @@ use std::alloc::Global;
 use std::marker::Model;
 
 /// A string or a payload that stands in an application.
-#[derive(Debug, Drop)]
+#[derive(Drop)]
 pub struct Literal {
     bytes: Bytes,
 }

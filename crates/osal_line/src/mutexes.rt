@@ -1,22 +1,19 @@
 //! The call lines on mutexes.
 ghost use Rattle.std.specs.Prelude.{◌≡◌, map, option_map, IfOk};
-ghost use Rattle.osal_machine.specs.Call.{said};
+ghost use Rattle.osal_call.specs.Call.{said};
 ghost use Rattle.osal_line.specs.Mutexes as mutexes;
 ghost use Rattle.osal_line.specs.Calls as calls;
-ghost use Rattle.osal_line.specs.Saturated.{saturated};
-ghost use Rattle.osal_line.specs.Price as price;
 
 use crate::arguments::{only_id, only_name};
 use crate::line::held_in;
-use crate::price::wait_cost;
 use crate::registers::Registers;
 use crate::{Literal, Register};
-use osal_base::{OutOfMemory, Timeout};
-use osal_machine::Call;
+use osal_base::OutOfMemory;
+use osal_call::Call;
 use std::alloc::Global;
 
 /// The calls on mutexes that a line may make.
-#[derive(Clone, Copy, Debug, PartialEq, Eq)]
+#[derive(Clone, Copy)]
 pub enum MutexWord {
     Create,
     Take,
@@ -52,7 +49,7 @@ pub fn mutex_word(text: &[u8]) -> Option<MutexWord>
 }
 
 /// A call on a mutex.
-#[derive(Debug, Drop)]
+#[derive(Drop)]
 pub enum MutexCall {
     Create { register: Register, name: Literal },
     Take { id: Register },
@@ -101,20 +98,6 @@ impl MutexCall {
             | MutexCall::Give { .. }
             | MutexCall::Delete { .. }
             | MutexCall::Info { .. } => None,
-        }
-    }
-
-    /// What its line costs beside its checkpoint and its call.
-    pub(crate) fn cost(&self) -> u64
-        ensures { result ≡ saturated (price.mutex_cost self.now) }
-    {
-        match self {
-            MutexCall::Take { .. } => wait_cost(Timeout::Pend),
-            MutexCall::Create { .. }
-            | MutexCall::Give { .. }
-            | MutexCall::Delete { .. }
-            | MutexCall::Find { .. }
-            | MutexCall::Info { .. } => 0,
         }
     }
 }

@@ -1,24 +1,21 @@
 //! The call lines on queues.
 ghost use Rattle.std.specs.Prelude.{◌≡◌, map, option_map, IfOk};
-ghost use Rattle.osal_machine.specs.Call.{said};
+ghost use Rattle.osal_call.specs.Call.{said};
 ghost use Rattle.osal_line.specs.Queues as queues;
 ghost use Rattle.osal_line.specs.Calls as calls;
-ghost use Rattle.osal_line.specs.Saturated.{saturated};
-ghost use Rattle.osal_line.specs.Price as price;
 
 use crate::arguments::{named_at, only_id, only_name};
 use crate::line::held_in;
 use crate::payload::payload_of;
-use crate::price::wait_cost;
 use crate::registers::Registers;
 use crate::values::{number_of, wait_of};
 use crate::{Literal, Register};
 use osal_base::{OutOfMemory, Timeout};
-use osal_machine::Call;
+use osal_call::Call;
 use std::alloc::Global;
 
 /// The calls on queues that a line may make.
-#[derive(Clone, Copy, Debug, PartialEq, Eq)]
+#[derive(Clone, Copy)]
 pub enum QueueWord {
     Create,
     Delete,
@@ -54,7 +51,7 @@ pub fn queue_word(text: &[u8]) -> Option<QueueWord>
 }
 
 /// A call on a queue.
-#[derive(Debug, Drop)]
+#[derive(Drop)]
 pub enum QueueCall {
     Create {
         register: Register,
@@ -135,20 +132,6 @@ impl QueueCall {
             | QueueCall::Put { .. }
             | QueueCall::Get { .. }
             | QueueCall::Info { .. } => None,
-        }
-    }
-
-    /// What its line costs beside its checkpoint and its call.
-    pub(crate) fn cost(&self) -> u64
-        ensures { result ≡ saturated (price.queue_cost self.now) }
-    {
-        match self {
-            QueueCall::Put { payload, .. } => payload.as_slice().len() as u64 / 64,
-            QueueCall::Get { n, wait, .. } => wait_cost(*wait) + u64::from(*n / 64),
-            QueueCall::Create { .. }
-            | QueueCall::Delete { .. }
-            | QueueCall::Find { .. }
-            | QueueCall::Info { .. } => 0,
         }
     }
 }

@@ -12,7 +12,7 @@ use std::marker::Model;
 
 /// The registers that a body has named so far, in the order of their first mention, and whether a
 /// line named one too many, or a body that no later line declares.
-#[derive(Debug, Drop)]
+#[derive(Drop)]
 pub struct Registers {
     names: Vec<Name>,
     over: bool,

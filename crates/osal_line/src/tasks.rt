@@ -1,26 +1,23 @@
 //! The call lines on tasks.
 ghost use Rattle.std.specs.Prelude.{◌≡◌, map, option_map, IfOk};
-ghost use Rattle.osal_machine.specs.Call.{said};
+ghost use Rattle.osal_call.specs.Call.{said};
 ghost use Rattle.osal_line.specs.declared.kind.BodyKind.TheVariants as kind;
 ghost use Rattle.osal_line.specs.Places.{number_in};
 ghost use Rattle.osal_line.specs.Tasks as tasks;
 ghost use Rattle.osal_line.specs.Calls as calls;
-ghost use Rattle.osal_line.specs.Saturated.{saturated, prices_of};
-ghost use Rattle.osal_line.specs.Price as price;
 
 use crate::arguments::{named_at, only_id, only_name};
 use crate::declarations::Declarations;
 use crate::line::held_in;
-use crate::price::{Prices, wait_cost};
 use crate::registers::Registers;
 use crate::values::number_of;
 use crate::{BodyKind, Literal, Register};
-use osal_base::{OutOfMemory, Timeout};
-use osal_machine::Call;
+use osal_base::OutOfMemory;
+use osal_call::Call;
 use std::alloc::Global;
 
 /// The calls on tasks that a line may make.
-#[derive(Clone, Copy, Debug, PartialEq, Eq)]
+#[derive(Clone, Copy)]
 pub enum TaskWord {
     Create,
     Exit,
@@ -60,7 +57,7 @@ pub fn task_word(text: &[u8]) -> Option<TaskWord>
 }
 
 /// A call on a task.
-#[derive(Debug, Drop)]
+#[derive(Drop)]
 pub enum TaskCall {
     Create {
         register: Register,
@@ -137,21 +134,6 @@ impl TaskCall {
             | TaskCall::SetPriority { .. }
             | TaskCall::Info { .. }
             | TaskCall::Delay { .. } => None,
-        }
-    }
-
-    /// What its line costs beside its checkpoint and its call.
-    pub(crate) fn cost(&self, prices: &Prices) -> u64
-        ensures { result ≡ saturated (price.task_cost (prices_of prices.now) self.now) }
-    {
-        match self {
-            TaskCall::Create { body, .. } => prices.body(*body).saturating_add(8),
-            TaskCall::Delay { ms } => wait_cost(Timeout::Ms(*ms)),
-            TaskCall::Exit
-            | TaskCall::Delete { .. }
-            | TaskCall::SetPriority { .. }
-            | TaskCall::Find { .. }
-            | TaskCall::Info { .. } => 0,
         }
     }
 }

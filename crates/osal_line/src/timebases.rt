@@ -1,24 +1,21 @@
 //! The call lines on timebases.
 ghost use Rattle.std.specs.Prelude.{◌≡◌, map, option_map, IfOk};
-ghost use Rattle.osal_machine.specs.Call.{said};
+ghost use Rattle.osal_call.specs.Call.{said};
 ghost use Rattle.osal_line.specs.Bare.{is_tick};
 ghost use Rattle.osal_line.specs.Timebases as timebases;
 ghost use Rattle.osal_line.specs.Calls as calls;
-ghost use Rattle.osal_line.specs.Saturated.{saturated, prices_of};
-ghost use Rattle.osal_line.specs.Price as price;
 
 use crate::arguments::{only_id, only_name};
 use crate::line::held_in;
-use crate::price::Prices;
 use crate::registers::Registers;
 use crate::values::number_of;
 use crate::{Literal, Register};
 use osal_base::OutOfMemory;
-use osal_machine::Call;
+use osal_call::Call;
 use std::alloc::Global;
 
 /// The calls on timebases that a line may make.
-#[derive(Clone, Copy, Debug, PartialEq, Eq)]
+#[derive(Clone, Copy)]
 pub enum TimebaseWord {
     Create,
     Tick,
@@ -50,7 +47,7 @@ pub fn timebase_word(text: &[u8]) -> Option<TimebaseWord>
 }
 
 /// A call on a timebase.
-#[derive(Debug, Drop)]
+#[derive(Drop)]
 pub enum TimebaseCall {
     Create { register: Register, name: Literal },
     /// The sum rises by so many microseconds.
@@ -96,19 +93,6 @@ impl TimebaseCall {
             TimebaseCall::Tick { .. }
             | TimebaseCall::FreeRun { .. }
             | TimebaseCall::Delete { .. } => None,
-        }
-    }
-
-    /// What its line costs beside its checkpoint and its call: a tick costs the handlers that it runs.
-    pub(crate) fn cost(&self, prices: &Prices) -> u64
-        ensures { result ≡ saturated (price.timebase_cost (prices_of prices.now) self.now) }
-    {
-        match self {
-            TimebaseCall::Tick { .. } => prices.tick,
-            TimebaseCall::Create { .. }
-            | TimebaseCall::FreeRun { .. }
-            | TimebaseCall::Delete { .. }
-            | TimebaseCall::Find { .. } => 0,
         }
     }
 

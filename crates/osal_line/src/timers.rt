@@ -1,6 +1,6 @@
 //! The call lines on timers.
 ghost use Rattle.std.specs.Prelude.{◌≡◌, map, option_map, IfOk};
-ghost use Rattle.osal_machine.specs.Call.{said};
+ghost use Rattle.osal_call.specs.Call.{said};
 ghost use Rattle.osal_line.specs.declared.kind.BodyKind.TheVariants as kind;
 ghost use Rattle.osal_line.specs.Places.{number_in};
 ghost use Rattle.osal_line.specs.Timers as timers;
@@ -13,11 +13,11 @@ use crate::registers::Registers;
 use crate::values::number_of;
 use crate::{BodyKind, Literal, Register};
 use osal_base::OutOfMemory;
-use osal_machine::Call;
+use osal_call::Call;
 use std::alloc::Global;
 
 /// The calls on timers that a line may make.
-#[derive(Clone, Copy, Debug, PartialEq, Eq)]
+#[derive(Clone, Copy)]
 pub enum TimerWord {
     Add,
     Set,
@@ -49,7 +49,7 @@ pub fn timer_word(text: &[u8]) -> Option<TimerWord>
 }
 
 /// A call on a timer.
-#[derive(Debug, Drop)]
+#[derive(Drop)]
 pub enum TimerCall {
     Add {
         register: Register,

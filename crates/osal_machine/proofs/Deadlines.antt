@@ -2,8 +2,8 @@
 use Rattle.std.proofs.Common.{◌≡◌, ◌++◌, ℕ, List, [], Option, sym, ap, ◌∙◌}
 use Rattle.std.proofs.lemmas.List.{append-nil}
 use Rattle.osal_base.specs.declared.time.Moment.{Moment}
-use Rattle.osal_idtable.specs.Deadlines.{deadlines_in, least, sooner}
-use Rattle.osal_idtable.proofs.Deadlines.{least_append}
+use Rattle.osal_object.specs.Deadlines.{deadlines_in, least, sooner}
+use Rattle.osal_object.proofs.Deadlines.{least_append}
 use Rattle.osal_machine.specs.Step.{MachineState}
 use Rattle.osal_machine.specs.Deadlines.{next_deadline}
 

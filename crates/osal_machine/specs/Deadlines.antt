@@ -1,7 +1,7 @@
 -- When the next open wait of the machine is due.
 use Rattle.std.specs.Prelude.{◌++◌, List, [], ◌∷◌, ℕ, Option}
 use Rattle.osal_base.specs.declared.time.Moment.{Moment}
-use Rattle.osal_idtable.specs.Deadlines.{least}
+use Rattle.osal_object.specs.Deadlines.{least}
 use Rattle.osal_machine.specs.Step.{MachineState, part_in}
 use Rattle.osal_machine.specs.OpenWaits.{part_numbers, deadlines_of}
 

@@ -2,8 +2,8 @@
 use Rattle.std.specs.Prelude.{◌≡◌, ◌==◌, List, [], ◌∷◌, ℕ, filter}
 use Rattle.osal_base.specs.declared.limits.Limits.{Limits}
 use Rattle.osal_base.specs.Reply.{reply_of}
-use Rattle.osal_machine.specs.declared.call.Entry.{Entry}
-use Rattle.osal_machine.specs.Call.{part_of}
+use Rattle.osal_call.specs.declared.call.Entry.{Entry}
+use Rattle.osal_call.specs.Call.{part_of}
 use Rattle.osal_machine.specs.Step.{MachineState, opening, step}
 
 -- the state that an entry's call leaves

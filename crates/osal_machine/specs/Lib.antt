@@ -1,3 +1,4 @@
+pub use Rattle.osal_call.specs.Call
 pub use Rattle.osal_idtable.specs.Table
 pub use Rattle.osal_task.specs.Tasks
 pub use Rattle.osal_task.specs.Delays
@@ -10,14 +11,10 @@ pub use Rattle.osal_condvar.specs.Condvars
 pub use Rattle.osal_time.specs.Time
 pub use Rattle.osal_time.specs.Ticks
 pub use Rattle.osal_time.specs.Timers
-pub mod Call
 pub mod Parts
 pub mod Step
 pub mod OpenWaits
 pub mod Deadlines
 pub mod Views
 pub mod AnyPart
-pub mod Journal
 pub mod History
-pub mod Laws
-pub mod QueueLaw

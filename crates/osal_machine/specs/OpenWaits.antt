@@ -2,8 +2,8 @@
 use Rattle.std.specs.Prelude.{ℕ, Bool, false, List, [], ◌∷◌, length, is_some, nat_lt}
 use Rattle.osal_base.specs.declared.time.Moment.{Moment}
 use Rattle.osal_idtable.specs.Sound.{AtMostOne}
-use Rattle.osal_idtable.specs.Waits.{is_of, wait_of}
-use Rattle.osal_idtable.specs.Deadlines.{deadlines_in}
+use Rattle.osal_object.specs.Waits.{is_of, wait_of}
+use Rattle.osal_object.specs.Deadlines.{deadlines_in}
 use Rattle.osal_machine.specs.Parts.{PartState, Tasks, Queues, CountSems, BinSems, Mutexes, Condvars, Time, Absent}
 
 -- the numbers of the parts

@@ -10,10 +10,10 @@ use Rattle.osal_sem.specs.Binary.{BinSemState, no_bin_sems}
 use Rattle.osal_mutex.specs.Mutexes.{MutexState, no_mutexes}
 use Rattle.osal_condvar.specs.Condvars.{CondvarState, no_condvars}
 use Rattle.osal_time.specs.Time.{TimeState, time_start}
-use Rattle.osal_machine.specs.Call.{part_of, part_of_id}
+use Rattle.osal_call.specs.Call.{part_of, part_of_id}
 use Rattle.osal_machine.specs.Parts.{PartState, Tasks, Queues, CountSems, BinSems, Mutexes, Condvars, Time, Absent, part_step, is_active_in}
-use Rattle.osal_machine.specs.declared.call.Call.{Call}
-use Rattle.osal_machine.specs.declared.call.Call.TheVariants as call
+use Rattle.osal_call.specs.declared.call.Call.{Call}
+use Rattle.osal_call.specs.declared.call.Call.TheVariants as call
 
 -- the states of the parts that are built
 pub record MachineState : Type 0 where

@@ -3,11 +3,11 @@ use Rattle.std.specs.Prelude.{◌==◌, ℕ, Bool, true, false, not}
 use Rattle.osal_base.specs.declared.time.Moment.{Moment}
 use Rattle.osal_base.specs.Reply.{Replied, is_waits}
 use Rattle.osal_task.specs.Tasks.{goes}
-use Rattle.osal_machine.specs.Call.{part_of}
+use Rattle.osal_call.specs.Call.{part_of}
 use Rattle.osal_machine.specs.Parts.{PartState, Tasks, Queues, CountSems, BinSems, Mutexes, Condvars, Time, Absent, part_step, is_active_in, goes_in}
 use Rattle.osal_machine.specs.Step.{MachineState, step, is_active}
-use Rattle.osal_machine.specs.declared.call.Call.{Call}
-use Rattle.osal_machine.specs.declared.call.Call.TheVariants as call
+use Rattle.osal_call.specs.declared.call.Call.{Call}
+use Rattle.osal_call.specs.declared.call.Call.TheVariants as call
 
 -- one part, or all of them
 pub data PartView : Type 0 where

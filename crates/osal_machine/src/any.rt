@@ -1,11 +1,12 @@
 //! A part of any kind.
 ghost use Rattle.std.specs.Prelude.{◌≡◌, false, IsTrue, IsOk, IfOk, OnErr};
 ghost use Rattle.osal_base.specs.Reply.{replied, success};
-ghost use Rattle.osal_machine.specs.Call.{takes_memory};
+ghost use Rattle.osal_call.specs.Call.{takes_memory};
 ghost use Rattle.osal_machine.specs.AnyPart.{view_of_any};
 
-use crate::{Call, Part};
+use crate::Part;
 use osal_base::{Ack, Moment, OsalId, OutOfMemory, Room};
+use osal_call::Call;
 use osal_condvar::CondvarPart;
 use osal_mutex::MutexPart;
 use osal_queue::QueuePart;

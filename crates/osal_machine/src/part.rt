@@ -1,12 +1,12 @@
 //! What the parts have in common.
 ghost use Rattle.std.specs.Prelude.{◌≡◌, false, IsTrue, IsOk, IfOk, OnErr};
-ghost use Rattle.osal_machine.specs.Call.{takes_memory};
+ghost use Rattle.osal_call.specs.Call.{takes_memory};
 ghost use Rattle.osal_base.specs.Reply.{replied, success};
 ghost use Rattle.osal_machine.specs.Views.{PartView, is_own, view_step, is_ready_in, is_active_at, goes_at};
-ghost use Rattle.osal_machine.specs.declared.call.Call.TheVariants.{WaitEnd};
+ghost use Rattle.osal_call.specs.declared.call.Call.TheVariants.{WaitEnd};
 
-use crate::Call;
 use osal_base::{Ack, Moment, OsalId, OutOfMemory, Room};
+use osal_call::Call;
 use std::alloc::Global;
 
 /// A part of the machine, or the whole of it: what changes under one hand.

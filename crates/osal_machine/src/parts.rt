@@ -11,8 +11,8 @@ mod queues;
 mod tasks;
 mod time;
 
-use crate::Call;
 use osal_base::{Ack, Status};
+use osal_call::Call;
 
 /// What a part without objects and waits answers.
 pub(crate) fn absent(call: &Call) -> Ack

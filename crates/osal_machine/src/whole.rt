@@ -3,18 +3,18 @@ ghost use Rattle.std.specs.Prelude.{◌≡◌, false, IsOk, IfOk, OnErr};
 ghost use Rattle.osal_base.specs.Limits.{Fits};
 ghost use Rattle.osal_base.specs.Reply.{replied, success};
 ghost use Rattle.osal_task.specs.Tasks.{goes};
-ghost use Rattle.osal_machine.specs.Call.{takes_memory};
+ghost use Rattle.osal_call.specs.Call.{takes_memory};
 ghost use Rattle.osal_machine.specs.Step.{opening, step, is_ready, is_active};
 ghost use Rattle.osal_machine.specs.Deadlines.{next_deadline};
 ghost use Rattle.osal_machine.specs.Views.{All};
 
-use crate::call::part_of_id;
+use crate::Part;
 use crate::parts::absent;
-use crate::{Call, Part, part_of};
 use osal_base::{Ack, Limits, Moment, OsalId, OutOfMemory, Room};
+use osal_call::{Call, part_of, part_of_id};
 use osal_condvar::CondvarPart;
-use osal_idtable::sooner;
 use osal_mutex::MutexPart;
+use osal_object::sooner;
 use osal_queue::QueuePart;
 use osal_sem::{BinSemPart, CountSemPart};
 use osal_task::TaskPart;
@@ -37,7 +37,7 @@ pub struct Whole {
 impl Model for Whole {
     ghost use Rattle.osal_machine.specs.Step.{MachineState};
     ghost use Rattle.std.specs.Coded.{codes};
-    ghost use Rattle.osal_idtable.specs.Code.{objects_code};
+    ghost use Rattle.osal_object.specs.Code.{objects_code};
 
     ghost Value = { MachineState };
 
@@ -54,14 +54,17 @@ impl Whole {
         requires { Fits limits.now }
         ensures { IfOk result (λ whole. whole ≡ opening limits.now) }
     {
+        let (tasks, queues) = open_tasks_and_queues(alloc, limits)?;
+        let (count_sems, bin_sems, mutexes) = open_locks(alloc, limits)?;
+        let (condvars, time) = open_condvars_and_time(alloc, limits)?;
         Ok(Whole {
-            tasks: TaskPart::open(alloc, limits)?,
-            queues: QueuePart::open(alloc, limits)?,
-            count_sems: CountSemPart::open(alloc, limits)?,
-            bin_sems: BinSemPart::open(alloc, limits)?,
-            mutexes: MutexPart::open(alloc, limits)?,
-            condvars: CondvarPart::open(alloc, limits)?,
-            time: TimePart::open(alloc, limits)?,
+            tasks,
+            queues,
+            count_sems,
+            bin_sems,
+            mutexes,
+            condvars,
+            time,
         })
     }
 
@@ -157,6 +160,51 @@ impl Whole {
         let of_sems = sooner(count_sems, sooner(bin_sems, of_locks));
         sooner(tasks, sooner(queues, of_sems))
     }
+}
+
+// The parts are opened in groups, since what is owned is let go at each `?`, which the check follows.
+fn open_tasks_and_queues(
+    alloc: Global,
+    limits: &Limits,
+) -> Result<(TaskPart, QueuePart), OutOfMemory>
+    requires { Fits limits.now }
+    ensures tasks { IfOk result (λ opened. opened.0 ≡ (opening limits.now).tasks) }
+    ensures queues { IfOk result (λ opened. opened.1 ≡ (opening limits.now).queues) }
+{
+    Ok((
+        TaskPart::open(alloc, limits)?,
+        QueuePart::open(alloc, limits)?,
+    ))
+}
+
+fn open_locks(
+    alloc: Global,
+    limits: &Limits,
+) -> Result<(CountSemPart, BinSemPart, MutexPart), OutOfMemory>
+    requires { Fits limits.now }
+    ensures count_sems { IfOk result (λ opened. opened.0 ≡ (opening limits.now).count_sems) }
+    ensures bin_sems { IfOk result (λ opened. opened.1 ≡ (opening limits.now).bin_sems) }
+    ensures mutexes { IfOk result (λ opened. opened.2 ≡ (opening limits.now).mutexes) }
+{
+    Ok((
+        CountSemPart::open(alloc, limits)?,
+        BinSemPart::open(alloc, limits)?,
+        MutexPart::open(alloc, limits)?,
+    ))
+}
+
+fn open_condvars_and_time(
+    alloc: Global,
+    limits: &Limits,
+) -> Result<(CondvarPart, TimePart), OutOfMemory>
+    requires { Fits limits.now }
+    ensures condvars { IfOk result (λ opened. opened.0 ≡ (opening limits.now).condvars) }
+    ensures time { IfOk result (λ opened. opened.1 ≡ (opening limits.now).time) }
+{
+    Ok((
+        CondvarPart::open(alloc, limits)?,
+        TimePart::open(alloc, limits)?,
+    ))
 }
 
 impl Part for Whole {

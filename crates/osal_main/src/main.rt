@@ -1,9 +1,9 @@
 //! `osal-run`: runs an application file and writes its report to standard output.
 #![tactic(auto)]
 
-use osal_base::{HostShelf, HostSink};
+use osal_call::Journal;
 use osal_exec::FreeGate;
-use osal_machine::Journal;
+use osal_outside::{HostShelf, HostSink};
 use osal_run::run;
 use std::alloc::AllocError;
 use std::env;

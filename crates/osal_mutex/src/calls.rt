@@ -1,11 +1,13 @@
 //! The calls of mutexes.
 ghost use Rattle.std.specs.Prelude.{◌≡◌, IsOk, IfOk};
 ghost use Rattle.osal_base.specs.Reply.{replied};
-ghost use Rattle.osal_mutex.specs.Mutexes.{mut_sem_create_step, mut_sem_take_step, mut_sem_give_step, mut_sem_delete_step, mut_sem_find_step, mut_sem_info_step};
+ghost use Rattle.osal_object.specs.Outcomes.{Find};
+ghost use Rattle.osal_mutex.specs.Mutexes.{done, mut_sem_create, mut_sem_take, mut_sem_give, mut_sem_delete, mut_sem_info};
 
 use crate::{Lock, Mutex, MutexPart};
 use osal_base::{Ack, Bytes, Moment, Name, OsalId, OutOfMemory, Room, Status, Timeout};
-use osal_idtable::{Standing, WaitRecord, status_of_name};
+use osal_idtable::status_of_name;
+use osal_object::{Standing, WaitRecord};
 use std::alloc::Global;
 
 /// How often the owner of a mutex may have taken it.
@@ -19,12 +21,12 @@ impl MutexPart {
         &mut self,
         _alloc: Global,
         task: OsalId,
-        _now: Moment,
+        now: Moment,
         name: &Bytes,
         room: &mut Room,
     ) -> Result<Ack, OutOfMemory>
         ensures step { IfOk result (λ ack. (replied ack room.new, self.new)
-            ≡ mut_sem_create_step self.old task name.now.bytes) }
+            ≡ done self.old task now (mut_sem_create task name.now.bytes)) }
         ensures memory { IsOk result }
     {
         room.clear();
@@ -52,7 +54,7 @@ impl MutexPart {
         room: &mut Room,
     ) -> Result<Ack, OutOfMemory>
         ensures step { IfOk result (λ ack. (replied ack room.new, self.new)
-            ≡ mut_sem_take_step self.old task now id) }
+            ≡ done self.old task now (mut_sem_take task id)) }
         ensures memory { IsOk result }
     {
         room.clear();
@@ -84,11 +86,11 @@ impl MutexPart {
         &mut self,
         _alloc: Global,
         task: OsalId,
-        _now: Moment,
+        now: Moment,
         id: OsalId,
         room: &mut Room,
     ) -> Result<Ack, OutOfMemory>
-        ensures step { IfOk result (λ ack. (replied ack room.new, self.new) ≡ mut_sem_give_step self.old task id) }
+        ensures step { IfOk result (λ ack. (replied ack room.new, self.new) ≡ done self.old task now (mut_sem_give task id)) }
         ensures memory { IsOk result }
     {
         room.clear();
@@ -109,12 +111,12 @@ impl MutexPart {
     pub fn mut_sem_delete(
         &mut self,
         _alloc: Global,
-        _task: OsalId,
-        _now: Moment,
+        task: OsalId,
+        now: Moment,
         id: OsalId,
         room: &mut Room,
     ) -> Result<Ack, OutOfMemory>
-        ensures step { IfOk result (λ ack. (replied ack room.new, self.new) ≡ mut_sem_delete_step self.old id) }
+        ensures step { IfOk result (λ ack. (replied ack room.new, self.new) ≡ done self.old task now (mut_sem_delete id)) }
         ensures memory { IsOk result }
     {
         room.clear();
@@ -132,13 +134,13 @@ impl MutexPart {
     pub fn mut_sem_find(
         &mut self,
         _alloc: Global,
-        _task: OsalId,
-        _now: Moment,
+        task: OsalId,
+        now: Moment,
         name: &Bytes,
         room: &mut Room,
     ) -> Result<Ack, OutOfMemory>
         ensures step { IfOk result (λ ack. (replied ack room.new, self.new)
-            ≡ mut_sem_find_step self.old name.now.bytes) }
+            ≡ done self.old task now (Find name.now.bytes)) }
         ensures memory { IsOk result }
     {
         room.clear();
@@ -149,12 +151,12 @@ impl MutexPart {
     pub fn mut_sem_info(
         &mut self,
         _alloc: Global,
-        _task: OsalId,
-        _now: Moment,
+        task: OsalId,
+        now: Moment,
         id: OsalId,
         room: &mut Room,
     ) -> Result<Ack, OutOfMemory>
-        ensures step { IfOk result (λ ack. (replied ack room.new, self.new) ≡ mut_sem_info_step self.old id) }
+        ensures step { IfOk result (λ ack. (replied ack room.new, self.new) ≡ done self.old task now (mut_sem_info id)) }
         ensures memory { IsOk result }
     {
         room.clear();

@@ -4,8 +4,6 @@
 mod calls;
 mod mutex;
 mod part;
-#[cfg(test)]
-mod tests;
 mod waiting;
 
 pub use mutex::{Lock, Mutex};

@@ -3,11 +3,12 @@ ghost use Rattle.std.specs.Prelude.{◌≡◌, IsOk, IfOk, is_some};
 ghost use Rattle.osal_base.specs.Limits.{Fits};
 ghost use Rattle.osal_base.specs.Reply.{replied};
 ghost use Rattle.osal_idtable.specs.Table.{active_at};
-ghost use Rattle.osal_mutex.specs.Mutexes.{no_mutexes, hold_step, release_step};
+ghost use Rattle.osal_object.specs.Outcomes.{Hold, Release};
+ghost use Rattle.osal_mutex.specs.Mutexes.{no_mutexes, done};
 
 use crate::Mutex;
 use osal_base::{Ack, Limits, Moment, ObjType, OsalId, OutOfMemory, Room};
-use osal_idtable::Objects;
+use osal_object::Objects;
 use std::alloc::Global;
 use std::marker::Model;
 
@@ -20,7 +21,7 @@ pub struct MutexPart {
 impl Model for MutexPart {
     ghost use Rattle.osal_mutex.specs.Mutexes.{MutexState};
     ghost use Rattle.std.specs.Coded.{codes};
-    ghost use Rattle.osal_idtable.specs.Code.{objects_code};
+    ghost use Rattle.osal_object.specs.Code.{objects_code};
 
     ghost Value = { MutexState };
 
@@ -45,12 +46,12 @@ impl MutexPart {
     pub fn hold(
         &mut self,
         _alloc: Global,
-        _task: OsalId,
-        _now: Moment,
+        task: OsalId,
+        now: Moment,
         id: OsalId,
         room: &mut Room,
     ) -> Result<Ack, OutOfMemory>
-        ensures step { IfOk result (λ ack. (replied ack room.new, self.new) ≡ hold_step self.old id) }
+        ensures step { IfOk result (λ ack. (replied ack room.new, self.new) ≡ done self.old task now (Hold id)) }
         ensures memory { IsOk result }
     {
         room.clear();
@@ -61,12 +62,12 @@ impl MutexPart {
     pub fn release(
         &mut self,
         _alloc: Global,
-        _task: OsalId,
-        _now: Moment,
+        task: OsalId,
+        now: Moment,
         id: OsalId,
         room: &mut Room,
     ) -> Result<Ack, OutOfMemory>
-        ensures step { IfOk result (λ ack. (replied ack room.new, self.new) ≡ release_step self.old id) }
+        ensures step { IfOk result (λ ack. (replied ack room.new, self.new) ≡ done self.old task now (Release id)) }
         ensures memory { IsOk result }
     {
         room.clear();

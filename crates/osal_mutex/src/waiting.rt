@@ -1,7 +1,7 @@
 //! How the takes of mutexes wait and end.
 ghost use Rattle.std.specs.Prelude.{◌≡◌, IsOk, IfOk};
 ghost use Rattle.osal_base.specs.Reply.{replied};
-ghost use Rattle.osal_idtable.specs.Deadlines.{deadlines_in, least};
+ghost use Rattle.osal_object.specs.Deadlines.{deadlines_in, least};
 ghost use Rattle.osal_mutex.specs.Mutexes.{wait_end_step, wait_abandon_step, ready};
 
 use crate::{Lock, Mutex, MutexPart};

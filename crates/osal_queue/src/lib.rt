@@ -4,8 +4,6 @@
 mod messages;
 mod part;
 mod queue;
-#[cfg(test)]
-mod tests;
 mod waiting;
 
 pub use part::QueuePart;

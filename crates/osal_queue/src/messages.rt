@@ -1,11 +1,13 @@
 //! How queues are made and removed, and how messages go in and come out.
 ghost use Rattle.std.specs.Prelude.{◌≡◌, IsOk, IfOk, OnErr};
 ghost use Rattle.osal_base.specs.Reply.{replied, success};
-ghost use Rattle.osal_queue.specs.Queues.{queue_create_step, queue_delete_step, queue_put_step, queue_get_step};
+ghost use Rattle.osal_object.specs.Outcomes.{Remove};
+ghost use Rattle.osal_queue.specs.Queues.{done, queue_create, queue_put, queue_get};
 
 use crate::{Queue, QueuePart};
 use osal_base::{Ack, Bytes, Moment, Name, OsalId, OutOfMemory, Room, Status, Timeout};
-use osal_idtable::{Standing, WaitRecord, status_of_name, status_of_reserve};
+use osal_idtable::{status_of_name, status_of_reserve};
+use osal_object::{Standing, WaitRecord};
 use std::alloc::Global;
 
 impl QueuePart {
@@ -17,17 +19,17 @@ impl QueuePart {
         &mut self,
         alloc: Global,
         task: OsalId,
-        _now: Moment,
+        now: Moment,
         name: &Bytes,
         depth: u32,
         size: u32,
         room: &mut Room,
     ) -> Result<Ack, OutOfMemory>
         ensures step { IfOk result (λ ack. (replied ack room.new, self.new)
-            ≡ queue_create_step self.old task name.now.bytes depth size) }
+            ≡ done self.old task now (queue_create task name.now.bytes depth size)) }
         ensures unchanged { OnErr result (self.new ≡ self.old) }
         ensures asked_last { OnErr result
-            ((queue_create_step self.old task name.now.bytes depth size).0.answer ≡ success.answer) }
+            ((done self.old task now (queue_create task name.now.bytes depth size)).0.answer ≡ success.answer) }
     {
         room.clear();
         let name = match Name::new(name.as_slice()) {
@@ -48,13 +50,13 @@ impl QueuePart {
     pub fn queue_delete(
         &mut self,
         _alloc: Global,
-        _task: OsalId,
-        _now: Moment,
+        task: OsalId,
+        now: Moment,
         id: OsalId,
         room: &mut Room,
     ) -> Result<Ack, OutOfMemory>
         ensures step { IfOk result (λ ack. (replied ack room.new, self.new)
-            ≡ queue_delete_step self.old id) }
+            ≡ done self.old task now (Remove id)) }
         ensures memory { IsOk result }
     {
         room.clear();
@@ -65,14 +67,14 @@ impl QueuePart {
     pub fn queue_put(
         &mut self,
         _alloc: Global,
-        _task: OsalId,
-        _now: Moment,
+        task: OsalId,
+        now: Moment,
         id: OsalId,
         payload: &Bytes,
         room: &mut Room,
     ) -> Result<Ack, OutOfMemory>
         ensures step { IfOk result (λ ack. (replied ack room.new, self.new)
-            ≡ queue_put_step self.old id payload.now.bytes) }
+            ≡ done self.old task now (queue_put id payload.now.bytes)) }
         ensures memory { IsOk result }
     {
         room.clear();
@@ -109,7 +111,7 @@ impl QueuePart {
         room: &mut Room,
     ) -> Result<Ack, OutOfMemory>
         ensures step { IfOk result (λ ack. (replied ack room.new, self.new)
-            ≡ queue_get_step self.old task now id n wait) }
+            ≡ done self.old task now (queue_get id n wait)) }
         ensures memory { IsOk result }
     {
         room.clear();

@@ -3,11 +3,12 @@ ghost use Rattle.std.specs.Prelude.{◌≡◌, IsOk, IfOk, is_some};
 ghost use Rattle.osal_base.specs.Limits.{Fits};
 ghost use Rattle.osal_base.specs.Reply.{replied};
 ghost use Rattle.osal_idtable.specs.Table.{active_at};
-ghost use Rattle.osal_queue.specs.Queues.{no_queues, queue_find_step, queue_info_step, hold_step, release_step};
+ghost use Rattle.osal_object.specs.Outcomes.{Find, Hold, Release};
+ghost use Rattle.osal_queue.specs.Queues.{no_queues, done, queue_info};
 
 use crate::Queue;
 use osal_base::{Ack, Bytes, Limits, Moment, ObjType, OsalId, OutOfMemory, Room, Status};
-use osal_idtable::Objects;
+use osal_object::Objects;
 use std::alloc::Global;
 use std::marker::Model;
 
@@ -20,7 +21,7 @@ pub struct QueuePart {
 impl Model for QueuePart {
     ghost use Rattle.osal_queue.specs.Queues.{QueueState};
     ghost use Rattle.std.specs.Coded.{codes};
-    ghost use Rattle.osal_idtable.specs.Code.{objects_code};
+    ghost use Rattle.osal_object.specs.Code.{objects_code};
 
     ghost Value = { QueueState };
 
@@ -45,13 +46,13 @@ impl QueuePart {
     pub fn queue_find(
         &mut self,
         _alloc: Global,
-        _task: OsalId,
-        _now: Moment,
+        task: OsalId,
+        now: Moment,
         name: &Bytes,
         room: &mut Room,
     ) -> Result<Ack, OutOfMemory>
         ensures step { IfOk result (λ ack. (replied ack room.new, self.new)
-            ≡ queue_find_step self.old name.now.bytes) }
+            ≡ done self.old task now (Find name.now.bytes)) }
         ensures memory { IsOk result }
     {
         room.clear();
@@ -62,13 +63,13 @@ impl QueuePart {
     pub fn queue_info(
         &mut self,
         _alloc: Global,
-        _task: OsalId,
-        _now: Moment,
+        task: OsalId,
+        now: Moment,
         id: OsalId,
         room: &mut Room,
     ) -> Result<Ack, OutOfMemory>
         ensures step { IfOk result (λ ack. (replied ack room.new, self.new)
-            ≡ queue_info_step self.old id) }
+            ≡ done self.old task now (queue_info id)) }
         ensures memory { IsOk result }
     {
         room.clear();
@@ -86,13 +87,13 @@ impl QueuePart {
     pub fn hold(
         &mut self,
         _alloc: Global,
-        _task: OsalId,
-        _now: Moment,
+        task: OsalId,
+        now: Moment,
         id: OsalId,
         room: &mut Room,
     ) -> Result<Ack, OutOfMemory>
         ensures step { IfOk result (λ ack. (replied ack room.new, self.new)
-            ≡ hold_step self.old id) }
+            ≡ done self.old task now (Hold id)) }
         ensures memory { IsOk result }
     {
         room.clear();
@@ -103,13 +104,13 @@ impl QueuePart {
     pub fn release(
         &mut self,
         _alloc: Global,
-        _task: OsalId,
-        _now: Moment,
+        task: OsalId,
+        now: Moment,
         id: OsalId,
         room: &mut Room,
     ) -> Result<Ack, OutOfMemory>
         ensures step { IfOk result (λ ack. (replied ack room.new, self.new)
-            ≡ release_step self.old id) }
+            ≡ done self.old task now (Release id)) }
         ensures memory { IsOk result }
     {
         room.clear();

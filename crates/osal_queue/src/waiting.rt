@@ -1,7 +1,7 @@
 //! How the gets of messages wait and end.
 ghost use Rattle.std.specs.Prelude.{◌≡◌, [], IsOk, IfOk, IfSome, IsTrue};
 ghost use Rattle.osal_base.specs.Reply.{replied};
-ghost use Rattle.osal_idtable.specs.Deadlines.{deadlines_in, least};
+ghost use Rattle.osal_object.specs.Deadlines.{deadlines_in, least};
 ghost use Rattle.osal_queue.specs.Queues.{queue_at, wait_end_step, wait_abandon_step, ready};
 ghost use Rattle.osal_queue.specs.Taking.{has_message, take_step};
 

@@ -4,7 +4,7 @@ use Rattle.std.proofs.lemmas.List.{append-nil}
 use Rattle.std.proofs.lemmas.List.Folds.{list_any-append}
 use Rattle.std.proofs.lemmas.Bool.Decides.{nat_tests}
 use Rattle.std.proofs.lemmas.Bool.{cases_eq}
-use Rattle.osal_machine.specs.declared.call.Entry.{Entry}
+use Rattle.osal_call.specs.declared.call.Entry.{Entry}
 use Rattle.osal_script.specs.App.{Application}
 use Rattle.osal_runs.specs.Segments.{Segment, is_of, has_segment, joined, begun, recorded, segments_from, segments_of}
 use Rattle.osal_runs.proofs.Segments.{has_joined, joined_none}

@@ -2,7 +2,7 @@
 use Rattle.std.proofs.Common.{◌≡◌, ◌==◌, ◌<◌, ◌≤◌, ◌+◌, ◌++◌, ◌||◌, List, [], ◌∷◌, ℕ, Bool, true, false, cond, Option, Some, None, is_some, length, get_or, take, map, refl, sym, ap, ◌∙◌, arith}
 use Rattle.std.specs.List.{AllByRecursion}
 use Rattle.std.proofs.lemmas.List.{length-append, map-append, take_more}
-use Rattle.osal_machine.specs.declared.call.Entry.{Entry}
+use Rattle.osal_call.specs.declared.call.Entry.{Entry}
 use Rattle.osal_script.specs.App.{Application}
 use Rattle.osal_runs.specs.Segments.{Segment, has_segment, joined, begun, recorded, segments_from}
 use Rattle.osal_report.specs.Cases.{Case, passes, case_mark, case_text, cases_text, cases_of, passed, failed}

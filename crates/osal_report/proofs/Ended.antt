@@ -1,7 +1,7 @@
 -- A script that is at its end stays there.
 use Rattle.std.proofs.Common.{◌≡◌, ◌++◌, List, [], ◌∷◌, refl, ap, ◌∙◌}
 use Rattle.osal_base.specs.Reply.{reply_of}
-use Rattle.osal_machine.specs.declared.call.Entry.{Entry}
+use Rattle.osal_call.specs.declared.call.Entry.{Entry}
 use Rattle.osal_script.specs.declared.phase.Phase.TheVariants as phase
 use Rattle.osal_script.specs.Script.{ScriptState, after_in, after_entry, reached}
 use Rattle.osal_report.specs.Cases.{case_in, cases_from}

@@ -4,7 +4,7 @@ use Rattle.std.specs.List.{AllByRecursion}
 use Rattle.std.specs.Ordering.{nat_cmp}
 use Rattle.std.specs.BTreeMap.{is_at}
 use Rattle.std.proofs.lemmas.Bool.Decides.{nat_tests}
-use Rattle.osal_machine.specs.declared.call.Entry.{Entry}
+use Rattle.osal_call.specs.declared.call.Entry.{Entry}
 use Rattle.osal_report.specs.Draft.{DraftState, noted, IsCounted, place_before, newest_place, noted_at, noted_if, joined_drafts, IsIndex}
 
 within_step : (own : Bool) (rest : Option ℕ) (n place : ℕ) → ((other : ℕ) → rest ≡ Some other → other < n) → place_before own rest ≡ Some place → place < suc n

@@ -3,7 +3,7 @@ use Rattle.std.proofs.Common.{◌≡◌, ◌+◌, ◌-◌, ◌<◌, ◌++◌, Li
 use Rattle.std.specs.Prelude.{slice_get}
 use Rattle.std.proofs.lemmas.List.{append-nil, length_push, get_or_push}
 use Rattle.std.proofs.lemmas.Option.{slice_get-get_or}
-use Rattle.osal_machine.specs.declared.call.Entry.{Entry}
+use Rattle.osal_call.specs.declared.call.Entry.{Entry}
 use Rattle.osal_script.specs.Script.{ScriptState, start_of, after_entry, reached}
 use Rattle.osal_runs.proofs.Segments.{reached_push}
 use Rattle.osal_runs.specs.Segments.{Segment, script_in}

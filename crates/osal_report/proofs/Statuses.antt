@@ -1,7 +1,7 @@
 -- The status by how the tasks' scripts end.
 use Rattle.std.proofs.Common.{◌≡◌, ◌==◌, not, ℕ, List, Bool, true, false, cond, refl, sym, ap, ◌∙◌}
 use Rattle.osal_base.specs.Limits.{version1}
-use Rattle.osal_machine.specs.declared.call.Entry.{Entry}
+use Rattle.osal_call.specs.declared.call.Entry.{Entry}
 use Rattle.osal_machine.specs.History.{replay}
 use Rattle.osal_script.specs.App.{Application, NamesLater}
 use Rattle.osal_runs.specs.Segments.{segments_of}

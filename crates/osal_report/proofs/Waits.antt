@@ -4,9 +4,9 @@ use Rattle.std.proofs.lemmas.Bool.{cases_Bool, eq-eqb}
 use Rattle.std.specs.List.{list_any}
 use Rattle.osal_machine.specs.Step.{MachineState, part_in}
 use Rattle.osal_machine.specs.OpenWaits.{part_numbers, has_wait, has_waits}
-use Rattle.osal_machine.proofs.CallWaits.{near_part}
-use Rattle.osal_machine.proofs.DueCounts.{any_part}
-use Rattle.osal_machine.proofs.OpenParts.{waits_there, has_there}
+use Rattle.osal_laws.proofs.CallWaits.{near_part}
+use Rattle.osal_laws.proofs.DueCounts.{any_part}
+use Rattle.osal_laws.proofs.OpenParts.{waits_there, has_there}
 use Rattle.osal_script.specs.declared.phase.Phase.{Phase}
 use Rattle.osal_script.specs.declared.phase.Phase.TheVariants as phase
 use Rattle.osal_script.specs.App.{Application}

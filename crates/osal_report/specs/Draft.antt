@@ -1,6 +1,6 @@
 -- What a draft keeps of a segment while the journal is read.
 use Rattle.std.specs.Prelude.{◌≡◌, ◌==◌, ◌≤◌, ◌+◌, ◌++◌, codes, List, [], ◌∷◌, ℕ, zero, suc, length, Bool, Option, Some, None, if◌then◌else◌}
-use Rattle.osal_machine.specs.declared.call.Entry.{Entry}
+use Rattle.osal_call.specs.declared.call.Entry.{Entry}
 use Rattle.osal_script.specs.Script.{ScriptState, after_entry}
 use Rattle.osal_runs.specs.Segments.{Segment, script_in}
 use Rattle.osal_line.specs.declared.line.Line.{Line}

@@ -1,7 +1,7 @@
 -- How the tasks of a journal end, creation by creation.
 use Rattle.std.specs.Prelude.{◌==◌, ◌++◌, List, [], ◌∷◌, ℕ, Bool, if◌then◌else◌}
 use Rattle.std.specs.List.{list_any}
-use Rattle.osal_machine.specs.declared.call.Entry.{Entry}
+use Rattle.osal_call.specs.declared.call.Entry.{Entry}
 use Rattle.osal_script.specs.App.{Application}
 use Rattle.osal_runs.specs.Segments.{Segment, script_in, has_segment, begun}
 use Rattle.osal_report.specs.Report.{is_stalled}

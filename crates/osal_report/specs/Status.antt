@@ -2,7 +2,7 @@
 use Rattle.std.specs.Prelude.{◌==◌, ℕ, List, Bool, if◌then◌else◌}
 use Rattle.std.specs.List.{list_any}
 use Rattle.osal_base.specs.Limits.{version1}
-use Rattle.osal_machine.specs.declared.call.Entry.{Entry}
+use Rattle.osal_call.specs.declared.call.Entry.{Entry}
 use Rattle.osal_machine.specs.Step.{MachineState, part_in}
 use Rattle.osal_machine.specs.OpenWaits.{part_numbers, has_waits}
 use Rattle.osal_machine.specs.History.{replay}

@@ -10,7 +10,7 @@ use crate::entry::{case_at, is_exit};
 use crate::segment::{how, is_stalled, push_begin, push_end, push_stall};
 use crate::spelling::push_bytes;
 use osal_base::OutOfMemory;
-use osal_machine::Entry;
+use osal_call::Entry;
 use osal_script::{App, Body, Cursor};
 use std::alloc::Global;
 use std::marker::Model;

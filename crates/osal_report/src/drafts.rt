@@ -10,7 +10,7 @@ ghost use Rattle.osal_report.specs.Draft.{draft_of, joined_drafts, newest_place,
 use crate::draft::Draft;
 use crate::entry::begun;
 use osal_base::{OsalId, OutOfMemory};
-use osal_machine::Entry;
+use osal_call::Entry;
 use osal_script::App;
 use std::alloc::Global;
 use std::collections::BTreeMap;

@@ -7,7 +7,7 @@ ghost use Rattle.osal_report.specs.Cases.{case_of_next, case_in, case_by};
 ghost use Rattle.osal_report.specs.Report.{is_exit as is_exit_call};
 
 use osal_base::Answer;
-use osal_machine::{Call, Entry};
+use osal_call::{Call, Entry};
 use osal_script::{App, Body, Cursor, Expect, Line, Phase};
 
 /// Whether an answer says that the call has to wait.

@@ -11,8 +11,7 @@ mod segment;
 mod spelling;
 mod status;
 mod summary;
-#[cfg(test)]
-mod tests;
 
-pub use status::status_of;
+pub use names::call_name;
+pub use status::{End, end_of_all, status_of};
 pub use summary::{Summary, report, summarize};

@@ -8,7 +8,7 @@ use osal_script::{
 };
 
 /// The name of a call.
-pub(crate) fn call_name(call: &ScriptCall) -> &'static [u8]
+pub fn call_name(call: &ScriptCall) -> &'static [u8]
     ensures { result.now ≡ names.call_name call.now }
 {
     match call {

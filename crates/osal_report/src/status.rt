@@ -11,14 +11,14 @@ ghost use Rattle.osal_report.specs.Status.{status_of as status_by};
 use crate::cases::passes;
 use crate::entry::{begun, case_at};
 use crate::segment::is_stalled;
-use osal_machine::{Entry, Journal};
+use osal_call::{Entry, Journal};
 use osal_script::{App, Body, Cursor, Phase};
 
 /// How scripts end: whether one has an open wait, and whether a case of them fails.
 #[derive(Clone, Copy)]
-pub(crate) struct End {
-    pub(crate) stalled: bool,
-    pub(crate) fails: bool,
+pub struct End {
+    pub stalled: bool,
+    pub fails: bool,
 }
 
 impl End {
@@ -152,7 +152,7 @@ fn end_of(app: &App, entry: &Entry, others: &[Entry]) -> End
 /// How the tasks' scripts end: whether any has an open wait, and whether a case fails.
 ///
 /// For each task it reads the entries from the task's creation to its end.
-pub(crate) fn end_of_all(app: &App, entries: &[Entry]) -> End
+pub fn end_of_all(app: &App, entries: &[Entry]) -> End
     ensures stalled { result.stalled ≡ some_stalls (segments_of app.now entries.now) }
     ensures passes { not result.fails ≡ (all_failed (segments_of app.now entries.now) == 0) }
 {

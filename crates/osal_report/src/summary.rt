@@ -12,7 +12,7 @@ use crate::drafts::{drafts_of, some_stalled};
 use crate::spelling::{push_bytes, push_decimal};
 use crate::status::End;
 use osal_base::{Bytes, OutOfMemory};
-use osal_machine::Journal;
+use osal_call::Journal;
 use osal_script::App;
 use std::alloc::Global;
 

@@ -1,6 +1,6 @@
 -- A run ends as its checks say, unless something outside failed.
 use Rattle.std.proofs.Common.{◌≡◌, ℕ, Option, Some, None, inl, inr, refl, sym}
-use Rattle.osal_base.specs.Shelf.{ShelfContent}
+use Rattle.osal_outside.specs.Shelf.{ShelfContent}
 use Rattle.osal_run.specs.declared.exit.Exit.{Exit}
 use Rattle.osal_run.specs.declared.exit.Exit.TheVariants as exit
 use Rattle.osal_run.specs.Checks.{Check, Refused, Accepted}

@@ -1,9 +1,9 @@
 -- What a run leaves behind once its tasks have settled.
 use Rattle.std.proofs.Common.{◌≡◌, ◌==◌, ◌++◌, ℕ, List, Bool, true, false, cond, inl, inr, Option, Some, None, refl, sym, ap, ◌∙◌, subst}
-use Rattle.osal_base.specs.Causes.{WhereTold}
+use Rattle.osal_outside.specs.Causes.{WhereTold}
 use Rattle.osal_base.specs.Limits.{version1}
-use Rattle.osal_base.specs.Sink.{Appends, AppendsPrefix}
-use Rattle.osal_machine.specs.declared.call.Entry.{Entry}
+use Rattle.osal_outside.specs.Sink.{Appends, AppendsPrefix}
+use Rattle.osal_call.specs.declared.call.Entry.{Entry}
 use Rattle.osal_machine.specs.History.{replay}
 use Rattle.osal_script.specs.App.{Application}
 use Rattle.osal_runs.specs.Segments.{segments_of}

@@ -1,8 +1,8 @@
 -- A run that did nothing.
 use Rattle.std.proofs.Common.{◌≡◌, List, [], ℕ, Option, Some, None, refl, sym, subst, append-nil, arith}
-use Rattle.osal_base.specs.Shelf.{ShelfContent}
-use Rattle.osal_base.specs.Sink.{AppendsPrefix}
-use Rattle.osal_machine.specs.declared.call.Entry.{Entry}
+use Rattle.osal_outside.specs.Shelf.{ShelfContent}
+use Rattle.osal_outside.specs.Sink.{AppendsPrefix}
+use Rattle.osal_call.specs.declared.call.Entry.{Entry}
 use Rattle.osal_script.specs.App.{Application}
 use Rattle.osal_runs.specs.Runs.{IsPartRun}
 use Rattle.osal_run.specs.declared.exit.Exit.TheVariants as exit

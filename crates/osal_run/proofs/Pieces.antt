@@ -1,7 +1,7 @@
 -- A file that is read in pieces.
 use Rattle.std.proofs.Common.{◌≡◌, ◌≤◌, ◌<◌, ◌+◌, ℕ, List, [], ◌∷◌, ◌++◌, length, Option, Some, None, Ok, Err, refl, sym, ap, ◌∙◌, append_assoc, length-append, append-nil, arith}
-use Rattle.osal_base.specs.Causes.{WhereTold}
-use Rattle.osal_base.specs.Shelf.{ShelfContent}
+use Rattle.osal_outside.specs.Causes.{WhereTold}
+use Rattle.osal_outside.specs.Shelf.{ShelfContent}
 use Rattle.osal_run.specs.declared.load.ReadFault.{ReadFault}
 use Rattle.osal_run.specs.declared.load.ReadFault.TheVariants as read_fault
 use Rattle.osal_run.specs.Checks.{file_limit}

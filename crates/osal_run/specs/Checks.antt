@@ -1,14 +1,14 @@
 -- What stands before a run: the checks, in their order, and the text of each refusal.
 use Rattle.std.specs.Prelude.{◌==◌, ◌++◌, List, [], ◌∷◌, ℕ, Option, Some, None, Result, Ok, Err, codes, length, nat_lt, if◌then◌else◌}
 use Rattle.std.specs.Fmt.{decimal}
-use Rattle.osal_base.specs.Shelf.{Files}
-use Rattle.osal_script.specs.declared.fault.AppFault.{AppFault}
+use Rattle.osal_outside.specs.Shelf.{Files}
+use Rattle.osal_reading.specs.declared.fault.AppFault.{AppFault}
 use Rattle.osal_run.specs.declared.refusal.Refusal.{Refusal}
 use Rattle.osal_run.specs.declared.refusal.Refusal.TheVariants as refusal
 use Rattle.osal_script.specs.App.{Application}
 use Rattle.osal_script.specs.Cost.{cost_of}
-use Rattle.osal_script.specs.Fault.{kind_text}
-use Rattle.osal_script.specs.Reading.{reading_of}
+use Rattle.osal_reading.specs.Fault.{kind_text}
+use Rattle.osal_reading.specs.Reading.{reading_of}
 
 -- the most bytes of an application's file
 abbrev pub file_limit : ℕ

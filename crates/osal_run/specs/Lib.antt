@@ -1,7 +1,7 @@
-pub use Rattle.osal_base.specs.Causes
-pub use Rattle.osal_base.specs.Shelf
-pub use Rattle.osal_base.specs.Sink
-pub use Rattle.osal_script.specs.Reading
+pub use Rattle.osal_outside.specs.Causes
+pub use Rattle.osal_outside.specs.Shelf
+pub use Rattle.osal_outside.specs.Sink
+pub use Rattle.osal_reading.specs.Reading
 pub use Rattle.osal_runs.specs.Runs
 pub use Rattle.osal_report.specs.Report
 pub mod Checks

@@ -2,7 +2,7 @@
 use Rattle.std.specs.Prelude.{◌≡◌, ◌≤◌, ◌<◌, ◌++◌, List, [], ℕ, Option, Some, None, Result, Ok, Err, length}
 use Rattle.std.specs.declared.vec.Vec.{Vec}
 use Rattle.std.specs.declared.alloc.Global.{Global}
-use Rattle.osal_base.specs.Shelf.{ShelfContent}
+use Rattle.osal_outside.specs.Shelf.{ShelfContent}
 use Rattle.osal_script.specs.App.{Application}
 use Rattle.osal_run.specs.declared.load.ReadFault.{ReadFault}
 use Rattle.osal_run.specs.declared.load.ReadFault.TheVariants as read_fault

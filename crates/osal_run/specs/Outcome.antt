@@ -1,9 +1,9 @@
 -- What a run leaves, by its exit status.
 use Rattle.std.specs.Prelude.{◌≡◌, ◌⊎◌, ◌++◌, List, [], ℕ, Option, Some, None}
-use Rattle.osal_base.specs.Causes.{WhereTold}
-use Rattle.osal_base.specs.Shelf.{ShelfContent}
-use Rattle.osal_base.specs.Sink.{AppendsPrefix}
-use Rattle.osal_machine.specs.declared.call.Entry.{Entry}
+use Rattle.osal_outside.specs.Causes.{WhereTold}
+use Rattle.osal_outside.specs.Shelf.{ShelfContent}
+use Rattle.osal_outside.specs.Sink.{AppendsPrefix}
+use Rattle.osal_call.specs.declared.call.Entry.{Entry}
 use Rattle.osal_script.specs.App.{Application}
 use Rattle.osal_runs.specs.Runs.{IsPartRun, IsRun}
 use Rattle.osal_report.specs.Report.{report_text}

@@ -1,6 +1,6 @@
 //! From the words to an application: the checks before a run, in their order.
 ghost use Rattle.std.specs.Prelude.{◌≡◌, ◌<◌, ◌≤◌, ◌+◌, map, length, IfOk, Err, Some, string_bytes, option_copied};
-ghost use Rattle.osal_base.specs.Causes.{Rose, WhereTold};
+ghost use Rattle.osal_outside.specs.Causes.{Rose, WhereTold};
 ghost use Rattle.osal_script.specs.Cost.{cost_of};
 ghost use Rattle.osal_run.specs.Checks.{file_name as name_in, file_of, cost_limit, check_cost};
 ghost use Rattle.osal_run.specs.Loading.{IfTold, checked, ReadsPiece, ReadsFile, LoadsAs, LoadsFile, seen_bytes};
@@ -8,8 +8,10 @@ ghost use Rattle.osal_run.specs.declared.load.ReadFault.TheVariants as read_faul
 ghost use Rattle.osal_run.specs.declared.load.Stop.TheVariants as stop;
 
 use crate::Refusal;
-use osal_base::{Opened, OutOfMemory, ReadFailed, Shelf};
-use osal_script::{App, ParseFault, parse};
+use osal_base::OutOfMemory;
+use osal_outside::{Opened, ReadFailed, Shelf};
+use osal_reading::{ParseFault, parse};
+use osal_script::App;
 use std::alloc::Global;
 
 /// The most bytes of an application's file.

@@ -3,7 +3,7 @@ ghost use Rattle.std.specs.Prelude.{◌≡◌, IfOk};
 ghost use Rattle.osal_run.specs.Checks.{refusal_text, fault_text};
 
 use osal_base::{Bytes, OutOfMemory};
-use osal_script::AppFault;
+use osal_reading::AppFault;
 use std::alloc::Global;
 
 /// The first check that refuses.

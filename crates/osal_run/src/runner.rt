@@ -1,7 +1,7 @@
 //! The top call.
 ghost use Rattle.std.specs.Prelude.{◌≡◌, ◌<◌, ◌≤◌, [], map, OnOk, string_bytes};
-ghost use Rattle.osal_base.specs.Causes.{HasCause, Rose, WhereTold};
-ghost use Rattle.osal_base.specs.Sink.{Appends, AppendsPrefix};
+ghost use Rattle.osal_outside.specs.Causes.{HasCause, Rose, WhereTold};
+ghost use Rattle.osal_outside.specs.Sink.{Appends, AppendsPrefix};
 ghost use Rattle.osal_script.specs.Cost.{cost_of};
 ghost use Rattle.osal_runs.specs.Runs.{IsPartRun, IsRun};
 ghost use Rattle.osal_run.specs.Checks.{Accepted, Refused, check_of, cost_limit, refusal_text};
@@ -11,9 +11,9 @@ ghost use Rattle.osal_run.specs.declared.exit.Exit.TheVariants as exit;
 
 use crate::load::{Stop, load};
 use crate::{Exit, Refusal};
-use osal_base::{Shelf, Sink, WriteFailed, send_all};
+use osal_call::Journal;
 use osal_exec::{Gate, Outcome, drive};
-use osal_machine::Journal;
+use osal_outside::{Shelf, Sink, WriteFailed, send_all};
 use osal_report::summarize;
 use osal_script::App;
 use std::alloc::Global;

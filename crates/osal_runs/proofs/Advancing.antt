@@ -4,13 +4,13 @@ use Rattle.std.specs.List.{list_any}
 use Rattle.std.proofs.lemmas.Bool.{cases_Bool, cond_both, false≢true, ltb-true, lt-ltb, le-ltb, eqb-true, eq-eqb, or_cases, or_left, or_right, cases_lt}
 use Rattle.std.proofs.lemmas.List.Folds.{list_any-append}
 use Rattle.osal_base.specs.declared.time.Moment.{Moment}
-use Rattle.osal_idtable.specs.declared.waits.WaitRecord.{WaitRecord}
-use Rattle.osal_idtable.proofs.OpenWaits.{WaitsSeen}
+use Rattle.osal_object.specs.declared.waits.WaitRecord.{WaitRecord}
+use Rattle.osal_object.proofs.OpenWaits.{WaitsSeen}
 use Rattle.osal_machine.specs.Step.{MachineState, part_in}
 use Rattle.osal_machine.specs.OpenWaits.{part_numbers, deadlines_of}
 use Rattle.osal_machine.specs.Deadlines.{deadlines_among}
-use Rattle.osal_machine.proofs.DueCounts.{due_in, due_among, due_counts, fewer_among}
-use Rattle.osal_machine.proofs.PartWaits.{of_each}
+use Rattle.osal_laws.proofs.DueCounts.{due_in, due_among, due_counts, fewer_among}
+use Rattle.osal_laws.proofs.PartWaits.{of_each}
 use Rattle.osal_runs.specs.Waiting.{deadlines, deadlines_in, deadline_above, least, least_with, next_deadline}
 use Rattle.osal_runs.proofs.Segments.{first_of_or}
 use Rattle.osal_runs.proofs.Deadlines.{next_behind}

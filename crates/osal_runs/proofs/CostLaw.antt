@@ -8,12 +8,12 @@ use Rattle.osal_base.specs.Limits.{version1}
 use Rattle.osal_base.specs.Text.{Text}
 use Rattle.osal_base.specs.Reply.{Replied, reply_of}
 use Rattle.osal_time.specs.Time.{TimeState}
-use Rattle.osal_machine.specs.Call.{text_of, said}
+use Rattle.osal_call.specs.Call.{text_of, said}
 use Rattle.osal_machine.specs.Step.{MachineState, opening, step}
 use Rattle.osal_machine.specs.History.{IsLegalFrom, after_entry}
-use Rattle.osal_machine.specs.declared.call.Call.{Call}
-use Rattle.osal_machine.specs.declared.call.Call.TheVariants as call
-use Rattle.osal_machine.specs.declared.call.Entry.{Entry}
+use Rattle.osal_call.specs.declared.call.Call.{Call}
+use Rattle.osal_call.specs.declared.call.Call.TheVariants as call
+use Rattle.osal_call.specs.declared.call.Entry.{Entry}
 use Rattle.osal_script.specs.App.{Application, ScriptBody, NamesLater, HandlersAreBare}
 use Rattle.osal_script.specs.Cost.{first_cost, tick_cost, costs_from, cost_of}
 use Rattle.osal_runs.specs.Segments.{Segment, has_segment, joined, begun, recorded, segments_from, segments_of}
@@ -23,7 +23,7 @@ use Rattle.osal_runs.specs.Linked.{IsLinked, is_creation}
 use Rattle.osal_runs.specs.Potential.{prices_of, segments_potential, potential}
 use Rattle.osal_runs.specs.CostLaw.{CostBounds}
 use Rattle.osal_runs.proofs.Joining.{all_front, next_joined, scripts_before}
-use Rattle.osal_machine.proofs.DueCounts.{due_counts, deadlines_counted}
+use Rattle.osal_laws.proofs.DueCounts.{due_counts, deadlines_counted}
 use Rattle.osal_runs.proofs.LineCalls.{create_calls}
 use Rattle.osal_runs.proofs.Linking.{begun_as}
 use Rattle.osal_runs.proofs.LinkedSteps.{recorded_still, advance_of, linked_first}

@@ -8,6 +8,7 @@ use Rattle.osal_base.specs.Name.{name_fault}
 use Rattle.osal_base.specs.declared.name.NameFault.{NameFault}
 use Rattle.osal_base.specs.declared.name.NameFault.TheVariants as name_fault_of
 use Rattle.osal_base.specs.Identifier.{slot_of}
+use Rattle.osal_base.specs.declared.time.Moment.{Moment}
 use Rattle.osal_base.specs.Reply.{Replied, gives}
 use Rattle.osal_idtable.specs.declared.place.Place.{Place}
 use Rattle.osal_idtable.specs.declared.table.ReserveFault.{ReserveFault}
@@ -15,12 +16,14 @@ use Rattle.osal_idtable.specs.Table.{Active, TableState, Reserved, active_at, is
 use Rattle.osal_idtable.specs.Next.{next_place, is_free_at, id_at_place}
 use Rattle.osal_idtable.specs.Steps.{issue, settle}
 use Rattle.osal_idtable.specs.Faults.{unless}
-use Rattle.osal_idtable.specs.Objects.{with_table, created, create_step}
+use Rattle.osal_object.specs.Objects.{ObjectsState, with_table, created, create_step}
+use Rattle.osal_object.specs.Outcomes.{Outcome}
 use Rattle.osal_idtable.proofs.Keyed.{ties, apart}
 use Rattle.osal_idtable.proofs.Steps.{find_passes}
 use Rattle.osal_idtable.proofs.WellFormed.{put_here, put_there}
 use Rattle.osal_task.specs.declared.part.Task.{Task}
-use Rattle.osal_task.specs.Tasks.{TaskState, in_tasks, task_at, new_task, lowest_priority, task_create_step}
+use Rattle.osal_task.specs.Tasks.{TaskState, in_tasks, task_at, new_task, done, task_create}
+use Rattle.osal_base.specs.Limits.{lowest_priority}
 use Rattle.osal_script.specs.Script.{is_success}
 
 -- a key whose slot no entry has is not found
@@ -89,14 +92,14 @@ module _ (tasks : TaskState) (name : List ℕ) (task : Task) where
       (λ f. issued (next_place tasks.objects.table) refl)
 
 -- whatever the name
-unless_creates : (tasks : TaskState) (fault : Option NameFault) (otherwise : Replied × TaskState) → IsCreation tasks otherwise → IsCreation tasks (unless fault tasks otherwise)
+unless_creates : (tasks : TaskState) (fault : Option NameFault) (otherwise : Replied × ObjectsState Task (Unit {0})) → IsCreation tasks (in_tasks otherwise) → IsCreation tasks (in_tasks (unless fault tasks.objects otherwise))
 unless_creates tasks None otherwise creates = creates
 unless_creates tasks (Some name_fault_of.Empty) otherwise creates = Refuses refl refl
 unless_creates tasks (Some name_fault_of.TooLong) otherwise creates = Refuses refl refl
 unless_creates tasks (Some name_fault_of.HasZero) otherwise creates = Refuses refl refl
 
 -- the creation of a task is refused, or makes one
-pub task_creates : (tasks : TaskState) (name : List ℕ) (body stack priority : ℕ) → IsCreation tasks (task_create_step tasks name body stack priority)
-task_creates tasks name body stack priority =
+pub task_creates : (tasks : TaskState) (task : ℕ) (now : Moment) (name : List ℕ) (body stack priority : ℕ) → IsCreation tasks (done tasks task now (task_create name body stack priority))
+task_creates tasks task now name body stack priority =
     unless_creates tasks (name_fault name) _
-    (cond_both (nat_lt lowest_priority priority) _ _ (IsCreation tasks) (λ t. Refuses refl refl) (λ f. create_creates tasks name (new_task body stack priority)))
+    (cond_both (nat_lt lowest_priority priority) _ _ (λ (o : Outcome Task (Unit {0})). IsCreation tasks (done tasks task now o)) (λ t. Refuses refl refl) (λ f. create_creates tasks name (new_task body stack priority)))

@@ -3,12 +3,12 @@ use Rattle.std.proofs.Common.{◌≡◌, ◌<◌, ℕ, List, [], ◌∷◌, min,
 use Rattle.std.specs.List.{AllByRecursion}
 use Rattle.std.proofs.lemmas.Bool.{cases_lt, cond_both, ltb-true}
 use Rattle.osal_base.specs.declared.time.Moment.{Moment}
-use Rattle.osal_idtable.specs.declared.waits.WaitRecord.{WaitRecord}
-use Rattle.osal_idtable.proofs.OpenWaits.{WaitsSeen}
+use Rattle.osal_object.specs.declared.waits.WaitRecord.{WaitRecord}
+use Rattle.osal_object.proofs.OpenWaits.{WaitsSeen}
 use Rattle.osal_machine.specs.Step.{MachineState, part_in}
 use Rattle.osal_machine.specs.OpenWaits.{part_numbers, deadlines_of}
 use Rattle.osal_machine.specs.Deadlines.{deadlines_among}
-use Rattle.osal_machine.proofs.PartWaits.{of_each}
+use Rattle.osal_laws.proofs.PartWaits.{of_each}
 use Rattle.osal_runs.specs.Waiting.{deadline_above, deadlines_in, deadlines, least_with, least, next_deadline}
 use Rattle.osal_runs.proofs.Joining.{all_more}
 

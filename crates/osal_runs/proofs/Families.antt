@@ -1,8 +1,8 @@
 -- What the calls of lines have in common, but for those on tasks: they create no task and end none, they tick or do
 -- not, and they cost their waits.
 use Rattle.std.proofs.Common.{◌≡◌, ◌≤◌, ℕ, Bool, true, false, List, refl, arith}
-use Rattle.osal_machine.specs.declared.call.Call.{Call}
-use Rattle.osal_machine.specs.declared.call.Call.TheVariants as call
+use Rattle.osal_call.specs.declared.call.Call.{Call}
+use Rattle.osal_call.specs.declared.call.Call.TheVariants as call
 use Rattle.osal_line.specs.declared.queues.QueueCall.{QueueCall}
 use Rattle.osal_line.specs.declared.queues.QueueCall.TheVariants as queue
 use Rattle.osal_line.specs.declared.counting.CountSemCall.{CountSemCall}
@@ -19,7 +19,7 @@ use Rattle.osal_line.specs.declared.timers.TimerCall.{TimerCall}
 use Rattle.osal_line.specs.declared.timers.TimerCall.TheVariants as timer
 use Rattle.osal_line.specs.Bare.{is_tick}
 use Rattle.osal_line.specs.Calls.{queue_call, count_sem_call, bin_sem_call, mutex_call, condvar_call, timebase_call, timer_call}
-use Rattle.osal_line.specs.Price.{queue_cost, count_sem_cost, bin_sem_cost, mutex_cost, condvar_cost}
+use Rattle.osal_price.specs.Price.{queue_cost, count_sem_cost, bin_sem_cost, mutex_cost, condvar_cost}
 use Rattle.osal_runs.specs.Linked.{is_creation}
 use Rattle.osal_runs.proofs.LineCalls.{is_exit, wait_cost_of}
 

@@ -7,14 +7,14 @@ use Rattle.osal_base.specs.declared.time.Moment.{Moment}
 use Rattle.osal_base.specs.Limits.{version1}
 use Rattle.osal_base.specs.Reply.{Replied, reply_of}
 use Rattle.osal_time.specs.Time.{TimeState}
-use Rattle.osal_machine.specs.Call.{said}
+use Rattle.osal_call.specs.Call.{said}
 use Rattle.osal_machine.specs.Step.{MachineState, opening, step}
 use Rattle.osal_machine.specs.History.{after_entry, replay_from, replay}
-use Rattle.osal_machine.specs.declared.call.Call.{Call}
-use Rattle.osal_machine.specs.declared.call.Call.TheVariants as call
-use Rattle.osal_machine.specs.declared.call.Entry.{Entry}
-use Rattle.osal_machine.proofs.Histories.{legal_push}
-use Rattle.osal_machine.proofs.Own.{after_time}
+use Rattle.osal_call.specs.declared.call.Call.{Call}
+use Rattle.osal_call.specs.declared.call.Call.TheVariants as call
+use Rattle.osal_call.specs.declared.call.Entry.{Entry}
+use Rattle.osal_laws.proofs.Histories.{legal_push}
+use Rattle.osal_laws.proofs.Own.{after_time}
 use Rattle.osal_script.specs.declared.phase.Phase.{Phase}
 use Rattle.osal_script.specs.declared.phase.Phase.TheVariants as phase
 use Rattle.osal_script.specs.App.{Application, ScriptBody}
@@ -69,7 +69,7 @@ module _ (state : MachineState) (task : ℕ) (now : Moment) where
   -- only an advance makes time go on
   pub still_moment : (made : Call) → is_advance made ≡ false → (step state task now made).1.time.moment ≡ state.time.moment
   still_moment made none =
-      after_time state task now made (λ (t : TimeState). t.moment ≡ state.time.moment) refl (moment_stays state.time made none)
+      after_time state task now made (λ (t : TimeState). t.moment ≡ state.time.moment) refl (moment_stays state.time task now made none)
 
   -- an advance that succeeds makes time go on to its moment
   later_time : (to : ℕ) → is_success (step state task now (call.Advance to)).0.answer ≡ true → (step state task now (call.Advance to)).1.time.moment ≡ record { ms = to }

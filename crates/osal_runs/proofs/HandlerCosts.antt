@@ -5,7 +5,7 @@ use Rattle.std.specs.List.{AllByRecursion}
 use Rattle.std.proofs.lemmas.Bool.{cond_both, cond-false, cases_Bool, false≢true, ltb-false}
 use Rattle.osal_base.specs.Limits.{version1}
 use Rattle.osal_base.specs.Reply.{Replied}
-use Rattle.osal_time.specs.Timebase.{timer_limit}
+use Rattle.osal_call.specs.Firing.{timer_limit}
 use Rattle.osal_line.specs.declared.kind.BodyKind.{BodyKind}
 use Rattle.osal_line.specs.declared.kind.BodyKind.TheVariants as kind
 use Rattle.osal_line.specs.declared.line.ScriptCall.{ScriptCall}
@@ -16,7 +16,7 @@ use Rattle.osal_line.specs.declared.timebases.TimebaseCall.{TimebaseCall}
 use Rattle.osal_line.specs.declared.timebases.TimebaseCall.TheVariants as timebase_line
 use Rattle.osal_line.specs.declared.line.Line.{Line}
 use Rattle.osal_line.specs.Bare.{is_task_creation, is_tick, is_tick_line, IsBare}
-use Rattle.osal_line.specs.Price.{Prices, task_cost, timebase_cost, line_cost}
+use Rattle.osal_price.specs.Price.{Prices, task_cost, timebase_cost, line_cost}
 use Rattle.osal_script.specs.declared.item.Item.{Item}
 use Rattle.osal_script.specs.declared.item.Item.TheVariants as item
 use Rattle.osal_script.specs.App.{ScriptBody, lines_of, ItemIsBare, HandlerIsBare}

@@ -8,30 +8,30 @@ use Rattle.osal_base.specs.Limits.{version1}
 use Rattle.osal_base.specs.Text.{Text}
 use Rattle.osal_base.specs.Time.{is_check}
 use Rattle.osal_base.specs.Reply.{Replied, success, gives, goes_on, deleted, is_waits}
-use Rattle.osal_idtable.proofs.DueCounts.{most_deadlines}
-use Rattle.osal_idtable.proofs.OpenWaits.{SameWaits, IsOpened, IsClosed}
-use Rattle.osal_idtable.proofs.WaitSteps as waiting
-use Rattle.osal_idtable.proofs.WaitSteps.{IsWaitStep}
-use Rattle.osal_task.specs.Tasks.{TaskState, task_at, task_exit_step, checkpoint_step, task_create_step}
+use Rattle.osal_object.proofs.DueCounts.{most_deadlines}
+use Rattle.osal_object.proofs.OpenWaits.{SameWaits, IsOpened, IsClosed}
+use Rattle.osal_object.proofs.WaitSteps as waiting
+use Rattle.osal_object.proofs.WaitSteps.{IsWaitStep}
+use Rattle.osal_task.specs.Tasks.{TaskState, task_at, done, task_create}
 use Rattle.osal_time.specs.Attachment.{AreAttached}
-use Rattle.osal_machine.specs.Call.{part_of}
+use Rattle.osal_call.specs.Call.{part_of}
 use Rattle.osal_machine.specs.Step.{MachineState, part_in, step}
 use Rattle.osal_machine.specs.OpenWaits.{has_wait, WaitsOnce}
-use Rattle.osal_machine.specs.declared.call.Call.{Call}
-use Rattle.osal_machine.specs.declared.call.Call.TheVariants as call
-use Rattle.osal_machine.proofs.Attached.{attached_kept}
-use Rattle.osal_machine.proofs.CallWaits.{other_waits, own_waits, all_waits, check_waits, waits_once}
-use Rattle.osal_machine.proofs.DueCounts.{due_in, due_counts, due_less, due_more}
-use Rattle.osal_machine.proofs.Marked.{free_step}
-use Rattle.osal_machine.proofs.PartWaits.{seen_in}
-use Rattle.osal_machine.proofs.TaskMoves.{moves_tasks}
-use Rattle.osal_machine.proofs.TasksKept.{shape_kept, active_kept}
-use Rattle.osal_machine.proofs.Timeouts.{timeout_of, ends_wait}
-use Rattle.osal_line.specs.Price.{wait_cost}
+use Rattle.osal_call.specs.declared.call.Call.{Call}
+use Rattle.osal_call.specs.declared.call.Call.TheVariants as call
+use Rattle.osal_laws.proofs.Attached.{attached_kept}
+use Rattle.osal_laws.proofs.CallWaits.{other_waits, own_waits, all_waits, check_waits, waits_once}
+use Rattle.osal_laws.proofs.DueCounts.{due_in, due_counts, due_less, due_more}
+use Rattle.osal_laws.proofs.Marked.{free_step}
+use Rattle.osal_laws.proofs.PartWaits.{seen_in}
+use Rattle.osal_laws.proofs.TasksAlike.{moves_tasks}
+use Rattle.osal_laws.proofs.TasksKept.{shape_kept, active_kept}
+use Rattle.osal_call.specs.Signature.{timeout_of, ends_wait}
+use Rattle.osal_price.specs.Price.{wait_cost}
 use Rattle.osal_script.specs.Script.{is_success}
 use Rattle.osal_script.specs.declared.phase.Phase.{Phase}
 use Rattle.osal_runs.specs.Linked.{IsLinkedAt}
-use Rattle.osal_runs.proofs.TaskCalls.{AreUnheld, IsWithout, exit_outcome, passed_outcome}
+use Rattle.osal_runs.proofs.TaskCalls.{AreUnheld, IsWithout, exited, passed_by, exit_outcome, passed_outcome}
 use Rattle.osal_runs.proofs.Creating as creating
 
 -- two states have the same of a task
@@ -260,7 +260,7 @@ module _ (state : MachineState) (task : ℕ) (now : Moment) where
   ending_call made other check without =
       removes_same state (step state task now made).1 (kept_by state task now made) task (check_waits state task now made other check).1 without
 
-  exit_lines : ((task_exit_step state.tasks task).1 ≡ state.tasks) ⊎ (((task_exit_step state.tasks task).0 ≡ success) × IsWithout state.tasks (task_exit_step state.tasks task).1 task) → IsLineCall state task call.TaskExit (step state task now call.TaskExit)
+  exit_lines : ((exited state.tasks task now).1 ≡ state.tasks) ⊎ (((exited state.tasks task now).0 ≡ success) × IsWithout state.tasks (exited state.tasks task now).1 task) → IsLineCall state task call.TaskExit (step state task now call.TaskExit)
   exit_lines (inl same) = Goes (plain_call call.TaskExit refl refl (λ id. ap (λ (t : TaskState). is_some (task_at t id)) same))
   exit_lines (inr gone) = Exits refl gone.0 (ending_call call.TaskExit refl refl gone.1)
 
@@ -283,18 +283,22 @@ module _ (state : MachineState) (task : ℕ) (now : Moment) where
   line_calls made is =
       elim (cases_Bool (is_exit made)) [
         | inl exits ↦
-            subst (λ (c : Call). IsLineCall state task c (step state task now c)) (sym (exit_is made exits)) (exit_lines (exit_outcome state.tasks task))
+            subst (λ (c : Call). IsLineCall state task c (step state task now c)) (sym (exit_is made exits)) (exit_lines (exit_outcome state.tasks task now))
         | inr stays ↦
             waiting_lines made (active_kept state task now made (line_still made is stays)) (own_waits state task now made (line_ends made is))
       ]
 
-  passed_by_machine : (checkpoint_step state.tasks task ≡ (goes_on, state.tasks)) ⊎ (((checkpoint_step state.tasks task).0 ≡ deleted) × IsWithout state.tasks (checkpoint_step state.tasks task).1 task) → (step state task now call.Checkpoint ≡ (goes_on, state)) ⊎ (((step state task now call.Checkpoint).0 ≡ deleted) × Removes state (step state task now call.Checkpoint).1 task)
+  -- what the calling task's checkpoint does to the tasks
+  abbrev passed : Replied × TaskState
+  passed = passed_by state.tasks task now (task_at state.tasks task)
+
+  passed_by_machine : (passed ≡ (goes_on, state.tasks)) ⊎ ((passed.0 ≡ deleted) × IsWithout state.tasks passed.1 task) → (step state task now call.Checkpoint ≡ (goes_on, state)) ⊎ (((step state task now call.Checkpoint).0 ≡ deleted) × Removes state (step state task now call.Checkpoint).1 task)
   passed_by_machine (inl same) = inl (ap (λ (p : Replied × TaskState). (p.0, record state { tasks = p.1 })) same)
   passed_by_machine (inr gone) = inr (gone.0, ending_call call.Checkpoint refl refl gone.1)
 
   -- an active task's checkpoint changes nothing, or removes it
   pub checkpoint_calls : is_some (task_at state.tasks task) ≡ true → AreUnheld state.tasks → (step state task now call.Checkpoint ≡ (goes_on, state)) ⊎ (((step state task now call.Checkpoint).0 ≡ deleted) × Removes state (step state task now call.Checkpoint).1 task)
-  checkpoint_calls active unheld = passed_by_machine (passed_outcome state.tasks task (task_at state.tasks task) refl active unheld)
+  checkpoint_calls active unheld = passed_by_machine (passed_outcome state.tasks task now (task_at state.tasks task) refl active unheld)
 
 -- a task is active under an identifier that was not; what else there was is as before
 pub record Creates (state left : MachineState) (id : ℕ) : Type 0 where
@@ -319,7 +323,7 @@ module _ (state : MachineState) (task : ℕ) (now : Moment) (name : Text) (body 
   abbrev created : MachineState
   created = (step state task now creation).1
 
-  creates_by : creating.IsCreation state.tasks (task_create_step state.tasks name.bytes body stack priority) → IsCreateCall state (step state task now creation)
+  creates_by : creating.IsCreation state.tasks (done state.tasks task now (task_create name.bytes body stack priority)) → IsCreateCall state (step state task now creation)
   creates_by (creating.Refuses same failed) =
       Refuses (plain_call state task now creation refl refl (λ id. ap (λ (t : TaskState). is_some (task_at t id)) same)) failed
   creates_by (creating.Makes id reply is) =
@@ -336,4 +340,4 @@ module _ (state : MachineState) (task : ℕ) (now : Moment) (name : Text) (body 
 
   -- what it does
   pub create_calls : IsCreateCall state (step state task now (call.TaskCreate name body stack priority))
-  create_calls = creates_by (creating.task_creates state.tasks name.bytes body stack priority)
+  create_calls = creates_by (creating.task_creates state.tasks task now name.bytes body stack priority)

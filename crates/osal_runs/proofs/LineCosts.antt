@@ -9,7 +9,7 @@ use Rattle.osal_line.specs.declared.timebases.TimebaseCall.{TimebaseCall}
 use Rattle.osal_line.specs.declared.timebases.TimebaseCall.TheVariants as timebase_line
 use Rattle.osal_line.specs.declared.line.Line.{Line}
 use Rattle.osal_line.specs.Between.{TaskNamesBetween, NamesBetween}
-use Rattle.osal_line.specs.Price.{Prices, task_cost, timebase_cost, line_cost}
+use Rattle.osal_price.specs.Price.{Prices, task_cost, timebase_cost, line_cost}
 use Rattle.osal_script.specs.declared.item.Item.{Item}
 use Rattle.osal_script.specs.declared.item.Item.TheVariants as item
 use Rattle.osal_script.specs.App.{ScriptBody, Application, times, first_of_levels, onto_level, repeated, levels_of, lines_of, ItemNames, NamesLaterFrom, NamesLater}

@@ -12,15 +12,15 @@ use Rattle.osal_base.specs.Reply.{Replied, gives, reply_of}
 use Rattle.osal_task.specs.declared.part.Task.{Task}
 use Rattle.osal_task.specs.Tasks.{task_at}
 use Rattle.osal_idtable.specs.Table.{Active}
-use Rattle.osal_machine.specs.Call.{said}
+use Rattle.osal_call.specs.Call.{said}
 use Rattle.osal_machine.specs.Step.{MachineState, opening, step}
 use Rattle.osal_machine.specs.OpenWaits.{has_wait, WaitsOnce}
 use Rattle.osal_machine.specs.History.{after_entry}
-use Rattle.osal_machine.specs.declared.call.Call.{Call}
-use Rattle.osal_machine.specs.declared.call.Call.TheVariants as call
-use Rattle.osal_machine.specs.declared.call.Entry.{Entry}
-use Rattle.osal_machine.proofs.Attached.{attached_replayed}
-use Rattle.osal_machine.proofs.Own.{by_number}
+use Rattle.osal_call.specs.declared.call.Call.{Call}
+use Rattle.osal_call.specs.declared.call.Call.TheVariants as call
+use Rattle.osal_call.specs.declared.call.Entry.{Entry}
+use Rattle.osal_laws.proofs.Attached.{attached_replayed}
+use Rattle.osal_laws.proofs.Own.{by_number}
 use Rattle.osal_script.specs.App.{Application, ScriptBody}
 use Rattle.osal_script.specs.Script as script
 use Rattle.osal_script.specs.Script.{ScriptState, MayCome, IsNext, after, is_success}

@@ -8,12 +8,12 @@ use Rattle.osal_base.specs.declared.reply.Answer.{Answer}
 use Rattle.osal_base.specs.Limits.{version1}
 use Rattle.osal_base.specs.Text.{Text}
 use Rattle.osal_base.specs.Reply.{reply_of}
-use Rattle.osal_machine.specs.Call.{said}
+use Rattle.osal_call.specs.Call.{said}
 use Rattle.osal_machine.specs.Step.{MachineState, opening, step}
 use Rattle.osal_machine.specs.History.{IsLegalFrom, after_entry, replay_from}
-use Rattle.osal_machine.specs.declared.call.Call.{Call}
-use Rattle.osal_machine.specs.declared.call.Call.TheVariants as call
-use Rattle.osal_machine.specs.declared.call.Entry.{Entry}
+use Rattle.osal_call.specs.declared.call.Call.{Call}
+use Rattle.osal_call.specs.declared.call.Call.TheVariants as call
+use Rattle.osal_call.specs.declared.call.Entry.{Entry}
 use Rattle.osal_script.specs.declared.phase.Phase.{Phase}
 use Rattle.osal_script.specs.declared.phase.Phase.TheVariants as phase
 use Rattle.osal_script.specs.App.{Application, ScriptBody, NamesLater}

@@ -6,18 +6,18 @@ use Rattle.std.proofs.lemmas.Bool.{cases_Bool, cond_both, cond-false, false≢tr
 use Rattle.osal_base.specs.declared.time.Moment.{Moment}
 use Rattle.osal_base.specs.Text.{Text}
 use Rattle.osal_base.specs.Reply.{Replied, reply_of, is_waits}
-use Rattle.osal_machine.specs.Call.{said}
+use Rattle.osal_call.specs.Call.{said}
 use Rattle.osal_machine.specs.Step.{MachineState, step}
 use Rattle.osal_machine.specs.History.{after_entry}
-use Rattle.osal_machine.specs.declared.call.Call.{Call}
-use Rattle.osal_machine.specs.declared.call.Call.TheVariants as call
-use Rattle.osal_machine.specs.declared.call.Entry.{Entry}
+use Rattle.osal_call.specs.declared.call.Call.{Call}
+use Rattle.osal_call.specs.declared.call.Call.TheVariants as call
+use Rattle.osal_call.specs.declared.call.Entry.{Entry}
 use Rattle.osal_line.specs.declared.line.ScriptCall.{ScriptCall}
 use Rattle.osal_line.specs.declared.line.ScriptCall.TheVariants as script_call
 use Rattle.osal_line.specs.declared.tasks.TaskCall.{TaskCall}
 use Rattle.osal_line.specs.declared.tasks.TaskCall.TheVariants as task_line
 use Rattle.osal_line.specs.Calls.{task_call, call_of}
-use Rattle.osal_line.specs.Price.{Prices, task_cost, line_cost}
+use Rattle.osal_price.specs.Price.{Prices, task_cost, line_cost}
 use Rattle.osal_script.specs.declared.phase.Phase.{Phase}
 use Rattle.osal_script.specs.declared.phase.Phase.TheVariants as phase
 use Rattle.osal_script.specs.App.{Application, ScriptBody, NamesLater, HandlersAreBare}
@@ -30,7 +30,7 @@ use Rattle.osal_runs.specs.Waiting.{deadlines}
 use Rattle.osal_runs.specs.Potential.{prices_of, lines_cost, script_potential, segments_potential, potential}
 use Rattle.osal_runs.proofs.Segments.{reached_push, first_of_or}
 use Rattle.osal_runs.proofs.LineCosts.{cost_right}
-use Rattle.osal_machine.proofs.DueCounts.{due_counts, deadlines_counted}
+use Rattle.osal_laws.proofs.DueCounts.{due_counts, deadlines_counted}
 use Rattle.osal_runs.proofs.LineCalls.{IsCreateCall, Refuses, Makes, create_calls}
 use Rattle.osal_runs.proofs.Linking.{begins_none, begun_as, creation_answered}
 use Rattle.osal_runs.proofs.LinkedSteps.{has_of_next, creation_of}

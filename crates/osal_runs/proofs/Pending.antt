@@ -3,8 +3,8 @@ use Rattle.std.proofs.Common.{◌≡◌, ◌&&◌, ℕ, zero, suc, List, [], ◌
 use Rattle.std.specs.List.{AllByRecursion}
 use Rattle.std.proofs.lemmas.Bool.{cond_both}
 use Rattle.osal_base.specs.Reply.{Replied, is_waits}
-use Rattle.osal_machine.specs.declared.call.Call.{Call}
-use Rattle.osal_time.specs.Timebase.{timer_limit}
+use Rattle.osal_call.specs.declared.call.Call.{Call}
+use Rattle.osal_call.specs.Firing.{timer_limit}
 use Rattle.osal_line.specs.declared.kind.BodyKind.{BodyKind}
 use Rattle.osal_line.specs.declared.kind.BodyKind.TheVariants as kind
 use Rattle.osal_line.specs.declared.line.Line.{Line}

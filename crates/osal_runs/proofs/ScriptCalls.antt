@@ -4,17 +4,17 @@ use Rattle.std.proofs.lemmas.Bool.{cond_both, cond-true, cond-false, false≢tru
 use Rattle.osal_base.specs.declared.reply.Answer.TheVariants as answer
 use Rattle.osal_base.specs.declared.time.Moment.{Moment}
 use Rattle.osal_base.specs.Reply.{Replied, success, goes_on, deleted, is_waits}
-use Rattle.osal_idtable.proofs.OpenWaits.{IsClosed}
-use Rattle.osal_idtable.proofs.WaitSteps as waiting
-use Rattle.osal_machine.specs.Call.{said, part_of, part_of_wait}
+use Rattle.osal_object.proofs.OpenWaits.{IsClosed}
+use Rattle.osal_object.proofs.WaitSteps as waiting
+use Rattle.osal_call.specs.Call.{said, part_of, part_of_wait}
 use Rattle.osal_machine.specs.Step.{MachineState, part_in, step}
 use Rattle.osal_machine.specs.OpenWaits.{has_wait}
-use Rattle.osal_machine.specs.declared.call.Call.{Call}
-use Rattle.osal_machine.specs.declared.call.Call.TheVariants as call
-use Rattle.osal_machine.proofs.CallWaits.{near_part, end_at, abandon_at, others_kept}
-use Rattle.osal_machine.proofs.PartWaits.{seen_in}
-use Rattle.osal_machine.proofs.TaskMoves.{moves_tasks}
-use Rattle.osal_machine.proofs.TasksKept.{active_kept}
+use Rattle.osal_call.specs.declared.call.Call.{Call}
+use Rattle.osal_call.specs.declared.call.Call.TheVariants as call
+use Rattle.osal_laws.proofs.CallWaits.{near_part, end_at, abandon_at, others_kept}
+use Rattle.osal_laws.proofs.PartWaits.{seen_in}
+use Rattle.osal_laws.proofs.TasksAlike.{moves_tasks}
+use Rattle.osal_laws.proofs.TasksKept.{active_kept}
 use Rattle.osal_line.specs.declared.line.ScriptCall.{ScriptCall}
 use Rattle.osal_line.specs.declared.line.ScriptCall.TheVariants as script
 use Rattle.osal_line.specs.declared.tasks.TaskCall.{TaskCall}

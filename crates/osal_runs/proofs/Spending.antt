@@ -5,17 +5,17 @@ use Rattle.osal_base.specs.declared.time.Moment.{Moment}
 use Rattle.osal_base.specs.Limits.{version1}
 use Rattle.osal_base.specs.Reply.{Replied, goes_on, deleted, is_waits}
 use Rattle.osal_time.specs.Attachment.{AreAttached}
-use Rattle.osal_machine.specs.Call.{said}
+use Rattle.osal_call.specs.Call.{said}
 use Rattle.osal_machine.specs.Step.{MachineState, step}
-use Rattle.osal_machine.specs.declared.call.Call.{Call}
-use Rattle.osal_machine.specs.declared.call.Call.TheVariants as call
+use Rattle.osal_call.specs.declared.call.Call.{Call}
+use Rattle.osal_call.specs.declared.call.Call.TheVariants as call
 use Rattle.osal_line.specs.declared.line.ScriptCall.{ScriptCall}
 use Rattle.osal_line.specs.declared.line.ScriptCall.TheVariants as script_call
 use Rattle.osal_line.specs.declared.tasks.TaskCall.{TaskCall}
 use Rattle.osal_line.specs.declared.tasks.TaskCall.TheVariants as task_line
 use Rattle.osal_line.specs.Bare.{is_tick_line}
 use Rattle.osal_line.specs.Calls.{task_call, call_of}
-use Rattle.osal_line.specs.Price.{Prices, task_cost, line_cost}
+use Rattle.osal_price.specs.Price.{Prices, task_cost, line_cost}
 use Rattle.osal_line.specs.Exit.{is_exit_line}
 use Rattle.osal_script.specs.declared.phase.Phase.{Phase}
 use Rattle.osal_script.specs.declared.phase.Phase.TheVariants as phase
@@ -27,7 +27,7 @@ use Rattle.osal_runs.specs.Potential.{lines_cost, rest_cost, script_potential}
 use Rattle.osal_runs.proofs.TaskCalls.{AreUnheld}
 use Rattle.osal_runs.proofs.HandlerCosts.{IsFew, AreBare, lines_more, fired_none, fired_left}
 use Rattle.osal_runs.proofs.Ticks.{few_told, ticks_next, ticks_made, IsPaid, waits_plain}
-use Rattle.osal_machine.proofs.DueCounts.{due_counts}
+use Rattle.osal_laws.proofs.DueCounts.{due_counts}
 use Rattle.osal_runs.proofs.LineCalls.{wait_cost_of, Removes, IsLineCall, Goes, Waits, Exits, line_calls, checkpoint_calls}
 use Rattle.osal_runs.proofs.Linking.{of_line}
 use Rattle.osal_runs.proofs.ScriptCalls.{end_closes, abandon_closes, made_by_line, unsaid_checkpoint, unsaid_end, unsaid_abandon}

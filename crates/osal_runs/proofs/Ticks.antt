@@ -8,19 +8,19 @@ use Rattle.osal_base.specs.declared.time.Moment.{Moment}
 use Rattle.osal_base.specs.Limits.{version1}
 use Rattle.osal_base.specs.Reply.{Replied, reply_of, is_waits}
 use Rattle.osal_time.specs.Attachment.{AreAttached}
-use Rattle.osal_machine.specs.Call.{said, part_of}
+use Rattle.osal_call.specs.Call.{said, part_of}
 use Rattle.osal_machine.specs.Step.{MachineState, step}
-use Rattle.osal_machine.specs.declared.call.Call.{Call}
-use Rattle.osal_machine.specs.declared.call.Call.TheVariants as call
-use Rattle.osal_machine.specs.declared.call.Entry.{Entry}
-use Rattle.osal_machine.proofs.Attached.{tick_few}
+use Rattle.osal_call.specs.declared.call.Call.{Call}
+use Rattle.osal_call.specs.declared.call.Call.TheVariants as call
+use Rattle.osal_call.specs.declared.call.Entry.{Entry}
+use Rattle.osal_laws.proofs.Attached.{tick_few}
 use Rattle.osal_line.specs.declared.line.ScriptCall.{ScriptCall}
 use Rattle.osal_line.specs.declared.line.ScriptCall.TheVariants as script
 use Rattle.osal_line.specs.declared.tasks.TaskCall.{TaskCall}
 use Rattle.osal_line.specs.declared.tasks.TaskCall.TheVariants as task_line
 use Rattle.osal_line.specs.Bare.{is_tick_line}
 use Rattle.osal_line.specs.Calls.{task_call, call_of}
-use Rattle.osal_line.specs.Price.{Prices}
+use Rattle.osal_price.specs.Price.{Prices}
 use Rattle.osal_script.specs.declared.phase.Phase.{Phase}
 use Rattle.osal_script.specs.declared.phase.Phase.TheVariants as phase
 use Rattle.osal_script.specs.App.{Application, HandlersAreBare}
@@ -38,7 +38,7 @@ use Rattle.osal_runs.proofs.HandlerCosts.{IsFew, AreBare}
 -- the answer to a tick where the timers are attached to their timebases
 pub few_told : (state : MachineState) (task : ℕ) (now : Moment) (made : Call) → AreAttached version1.timers state.time → is_tick_call made ≡ true → IsFew (step state task now made).0.bytes
 few_told state task now (call.TimebaseTick id usecs) attached tick =
-    tick_few version1.timers state.time id usecs attached
+    tick_few version1.timers state.time task now id usecs attached
 few_told state task now _ attached tick = absurd (false≢true tick)
 
 -- a call ticks where what it says does

@@ -10,10 +10,10 @@ use Rattle.osal_base.specs.Reply.{Replied, reply_of}
 use Rattle.osal_time.specs.Time.{TimeState}
 use Rattle.osal_machine.specs.Step.{MachineState, opening, step}
 use Rattle.osal_machine.specs.History.{after_entry, replay}
-use Rattle.osal_machine.specs.declared.call.Call.{Call}
-use Rattle.osal_machine.specs.declared.call.Call.TheVariants as call
-use Rattle.osal_machine.specs.declared.call.Entry.{Entry}
-use Rattle.osal_machine.proofs.Histories.{replay_push}
+use Rattle.osal_call.specs.declared.call.Call.{Call}
+use Rattle.osal_call.specs.declared.call.Call.TheVariants as call
+use Rattle.osal_call.specs.declared.call.Entry.{Entry}
+use Rattle.osal_laws.proofs.Histories.{replay_push}
 use Rattle.osal_script.specs.App.{Application}
 use Rattle.osal_script.specs.Script.{IsNext, is_success}
 use Rattle.osal_runs.specs.Segments.{Segment, has_segment, recorded, segments_of}

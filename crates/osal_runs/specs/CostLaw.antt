@@ -1,6 +1,6 @@
 -- What the cost of an application says of its runs.
 use Rattle.std.specs.Prelude.{◌≤◌, List, length}
-use Rattle.osal_machine.specs.declared.call.Entry.{Entry}
+use Rattle.osal_call.specs.declared.call.Entry.{Entry}
 use Rattle.osal_script.specs.App.{Application, NamesLater, HandlersAreBare}
 use Rattle.osal_script.specs.Cost.{cost_of}
 use Rattle.osal_runs.specs.Runs.{IsPartRun}

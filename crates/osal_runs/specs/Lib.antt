@@ -1,10 +1,10 @@
 pub use Rattle.osal_script.specs.App
 pub use Rattle.osal_script.specs.Script
 pub use Rattle.osal_script.specs.Cost
-pub use Rattle.osal_machine.specs.Call
+pub use Rattle.osal_call.specs.Call
 pub use Rattle.osal_machine.specs.Step
 pub use Rattle.osal_machine.specs.OpenWaits
-pub use Rattle.osal_machine.specs.Journal
+pub use Rattle.osal_call.specs.Journal
 pub use Rattle.osal_machine.specs.History
 pub mod Segments
 pub mod Waiting

@@ -1,7 +1,7 @@
 -- How many more entries a run may make.
 use Rattle.std.specs.Prelude.{◌+◌, List, [], ◌∷◌, ℕ, length, slice_index}
 use Rattle.osal_machine.specs.Step.{MachineState}
-use Rattle.osal_line.specs.Price.{Prices, line_cost}
+use Rattle.osal_price.specs.Price.{Prices, line_cost}
 use Rattle.osal_script.specs.declared.phase.Phase.{Phase}
 use Rattle.osal_script.specs.declared.phase.Phase.TheVariants as phase
 use Rattle.osal_script.specs.App.{Application}

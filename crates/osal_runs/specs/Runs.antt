@@ -4,10 +4,10 @@ use Rattle.std.specs.List.{AllByRecursion}
 use Rattle.osal_base.specs.declared.time.Moment.{Moment}
 use Rattle.osal_base.specs.Identifier.{slot_of}
 use Rattle.osal_base.specs.Limits.{version1}
-use Rattle.osal_machine.specs.declared.call.Call.{Call}
-use Rattle.osal_machine.specs.declared.call.Call.TheVariants as call
-use Rattle.osal_machine.specs.declared.call.Entry.{Entry}
-use Rattle.osal_machine.specs.Call.{text_of, said}
+use Rattle.osal_call.specs.declared.call.Call.{Call}
+use Rattle.osal_call.specs.declared.call.Call.TheVariants as call
+use Rattle.osal_call.specs.declared.call.Entry.{Entry}
+use Rattle.osal_call.specs.Call.{text_of, said}
 use Rattle.osal_machine.specs.Step.{MachineState, opening}
 use Rattle.osal_machine.specs.History.{IsLegal, after_entry, replay}
 use Rattle.osal_script.specs.App.{Application, ScriptBody}

@@ -1,7 +1,7 @@
 -- Which tasks can go on, and when the next wait is due.
 use Rattle.std.specs.Prelude.{◌||◌, ◌&&◌, List, ℕ, Bool, not}
 use Rattle.std.specs.List.{list_any}
-pub use Rattle.osal_idtable.specs.Deadlines.{deadline_above, deadlines_in, least_with, least}
+pub use Rattle.osal_object.specs.Deadlines.{deadline_above, deadlines_in, least_with, least}
 use Rattle.osal_task.specs.Tasks.{goes}
 use Rattle.osal_machine.specs.Step.{MachineState, part_in, is_ready}
 use Rattle.osal_machine.specs.OpenWaits.{part_numbers, has_wait}

@@ -9,9 +9,9 @@ use Rattle.osal_line.specs.declared.tasks.TaskCall.TheVariants as task
 use Rattle.osal_line.specs.declared.timebases.TimebaseCall.{TimebaseCall}
 use Rattle.osal_line.specs.declared.timebases.TimebaseCall.TheVariants as timebase
 use Rattle.osal_line.specs.Between.{TaskNamesBetween, NamesBetween}
-use Rattle.osal_line.specs.declared.price.Prices as kept
-use Rattle.osal_line.specs.Price.{Prices, task_cost, timebase_cost, line_cost}
-use Rattle.osal_line.specs.Saturated.{saturated, prices_of}
+use Rattle.osal_price.specs.declared.price.Prices as kept
+use Rattle.osal_price.specs.Price.{Prices, task_cost, timebase_cost, line_cost}
+use Rattle.osal_price.specs.Saturated.{saturated, prices_of}
 use Rattle.osal_script.specs.declared.item.Item.{Item}
 use Rattle.osal_script.specs.declared.item.Item.TheVariants as item
 use Rattle.osal_script.specs.App.{ScriptBody, ItemNames, NamesLaterFrom}

@@ -2,8 +2,8 @@
 use Rattle.std.proofs.Common.{◌≡◌, ◌<◌, ◌≤◌, ◌+◌, ◌-◌, ◌*◌, ◌^◌, ◌∙◌, ℕ, zero, suc, List, [], ◌∷◌, Some, length, drop, get_or, map, min, inl, inr, refl, sym, ap, arith}
 use Rattle.std.proofs.lemmas.Bool.{cases_lt}
 use Rattle.std.proofs.lemmas.List.{drop_more, length-map}
-use Rattle.osal_line.specs.Price.{Prices, line_cost}
-use Rattle.osal_line.specs.Saturated.{saturated}
+use Rattle.osal_price.specs.Price.{Prices, line_cost}
+use Rattle.osal_price.specs.Saturated.{saturated}
 use Rattle.osal_script.specs.declared.item.Item.{Item}
 use Rattle.osal_script.specs.declared.item.Item.TheVariants as item
 use Rattle.osal_script.specs.Cost.{onto_cost, repeated_cost, level_costs}

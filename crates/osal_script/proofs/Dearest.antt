@@ -1,8 +1,8 @@
 -- The cost of the dearest handler, as 64 bits tell it.
 use Rattle.std.proofs.Common.{◌≡◌, ◌<◌, ◌+◌, ◌-◌, ◌∙◌, ℕ, zero, suc, List, Some, drop, max, replicate, slice_get, slice_index, refl, sym, ap, arith}
 use Rattle.std.proofs.Math.Path.{fun_ext}
-use Rattle.osal_line.specs.declared.price.Prices as kept
-use Rattle.osal_line.specs.Saturated.{saturated, prices_of}
+use Rattle.osal_price.specs.declared.price.Prices as kept
+use Rattle.osal_price.specs.Saturated.{saturated, prices_of}
 use Rattle.osal_script.specs.App.{ScriptBody}
 use Rattle.osal_script.specs.Cost.{no_prices, handler_cost, greatest_handler}
 use Rattle.osal_script.proofs.Lists.{begins_with}

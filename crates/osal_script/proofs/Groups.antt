@@ -3,7 +3,8 @@ use Rattle.std.proofs.Common.{◌≡◌, ◌<◌, ◌≤◌, ◌+◌, ◌-◌, �
 use Rattle.std.proofs.lemmas.Bool.{cases_lt, cond-true, cond-false, cond_both}
 use Rattle.std.proofs.lemmas.Bool.Decides.{nat_tests}
 use Rattle.std.proofs.lemmas.List.{drop-drop}
-use Rattle.osal_script.specs.Script.{group_number, handler_numbers}
+use Rattle.osal_script.specs.Script.{handler_numbers}
+use Rattle.osal_call.specs.Firing.{group_number}
 
 first_number : (n : ℕ) (bytes : List ℕ) → 12 ≤ length bytes → handler_numbers (suc n) bytes ≡ group_number bytes ∷ handler_numbers n (drop 12 bytes)
 unfolding handler_numbers

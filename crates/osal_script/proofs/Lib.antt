@@ -1,6 +1,5 @@
 pub mod Lists
 pub mod Nesting
-pub mod Repeats
 pub mod Levels
 pub mod Passing
 pub mod Costs
@@ -8,7 +7,3 @@ pub mod Bodies
 pub mod Dearest
 pub mod Groups
 pub mod Frames
-pub mod Begun
-pub mod Lookups
-pub mod Later
-pub mod Sound

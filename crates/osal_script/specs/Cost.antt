@@ -1,10 +1,10 @@
 -- What an application costs: a bound on the entries of its runs.
 use Rattle.std.specs.Prelude.{◌+◌, ◌*◌, ◌-◌, List, [], ◌∷◌, ℕ, max, min, slice_index}
 use Rattle.osal_base.specs.Limits.{version1}
-use Rattle.osal_time.specs.Timebase.{timer_limit}
+use Rattle.osal_call.specs.Firing.{timer_limit}
 use Rattle.osal_line.specs.declared.kind.BodyKind.{BodyKind}
 use Rattle.osal_line.specs.declared.kind.BodyKind.TheVariants as kind
-use Rattle.osal_line.specs.Price.{Prices, line_cost}
+use Rattle.osal_price.specs.Price.{Prices, line_cost}
 use Rattle.osal_script.specs.declared.item.Item.{Item}
 use Rattle.osal_script.specs.declared.item.Item.TheVariants as item
 use Rattle.osal_script.specs.App.{ScriptBody, Application}

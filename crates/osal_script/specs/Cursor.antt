@@ -1,9 +1,9 @@
 -- What a cursor gives: a script's calls, where nobody deletes its task in a wait.
 use Rattle.std.specs.Prelude.{◌≡◌, List, [], ◌∷◌, ℕ, Option, Some, None}
 use Rattle.osal_base.specs.Reply.{Replied}
-use Rattle.osal_machine.specs.declared.call.Call.{Call}
-use Rattle.osal_machine.specs.declared.call.Call.TheVariants as call
-use Rattle.osal_machine.specs.Call.{said}
+use Rattle.osal_call.specs.declared.call.Call.{Call}
+use Rattle.osal_call.specs.declared.call.Call.TheVariants as call
+use Rattle.osal_call.specs.Call.{said}
 use Rattle.osal_line.specs.declared.line.Line.{Line}
 use Rattle.osal_script.specs.declared.cursor.Step.{Step}
 use Rattle.osal_script.specs.declared.cursor.Step.TheVariants as step

@@ -1,7 +1,5 @@
-pub use Rattle.osal_machine.specs.Call
-pub use Rattle.osal_machine.specs.Step
-pub use Rattle.osal_machine.specs.Journal
-pub use Rattle.osal_machine.specs.History
+pub use Rattle.osal_call.specs.Call
+pub use Rattle.osal_call.specs.Journal
 pub mod App
 pub mod Nesting
 pub mod Script
@@ -13,8 +11,3 @@ pub mod Expected
 pub mod Walk
 pub mod Steps
 pub mod Place
-pub mod Draft
-pub mod Blocks
-pub mod Reading
-pub mod Outcome
-pub mod Fault

@@ -1,6 +1,6 @@
 -- The costs of levels as a number of 64 bits tells them.
 use Rattle.std.specs.Prelude.{◌+◌, ◌*◌, List, [], ◌∷◌, ℕ}
-use Rattle.osal_line.specs.Saturated.{saturated}
+use Rattle.osal_price.specs.Saturated.{saturated}
 
 -- the cost of a line before the others of its level
 abbrev pub onto_saturated : ℕ → List ℕ → List ℕ

@@ -1,15 +1,14 @@
 -- What a script calls: the lines in their order, each behind a checkpoint, and then the exit.
 use Rattle.std.specs.Prelude.{◌≡◌, ◌⊎◌, ◌++◌, ◌&&◌, List, [], ◌∷◌, ℕ, zero, suc, Bool, Option, Some, None, true, false, map, length, take, drop, nat_lt, replicate, slice_get, if◌then◌else◌}
-use Rattle.std.specs.Int.{from_be_bytes, w32}
 use Rattle.osal_base.specs.declared.reply.Answer.{Answer}
 use Rattle.osal_base.specs.declared.reply.Answer.TheVariants as answer
 use Rattle.osal_base.specs.Reply.{Replied, reply_of, is_waits}
 pub use Rattle.osal_base.specs.Reply.{is_success}
-use Rattle.osal_machine.specs.declared.call.Call.{Call}
-use Rattle.osal_machine.specs.declared.call.Call.TheVariants as call
-use Rattle.osal_machine.specs.declared.call.Entry.{Entry}
-use Rattle.osal_machine.specs.Call.{said, part_of}
-use Rattle.osal_time.specs.Timebase.{timer_limit}
+use Rattle.osal_call.specs.declared.call.Call.{Call}
+use Rattle.osal_call.specs.declared.call.Call.TheVariants as call
+use Rattle.osal_call.specs.declared.call.Entry.{Entry}
+use Rattle.osal_call.specs.Call.{said, part_of}
+use Rattle.osal_call.specs.Firing.{timer_limit, group_number}
 use Rattle.osal_line.specs.declared.kind.BodyKind.{BodyKind}
 use Rattle.osal_line.specs.declared.kind.BodyKind.TheVariants as kind
 use Rattle.osal_line.specs.declared.line.Line.{Line}
@@ -88,10 +87,6 @@ with_frame frames OfHandler after = record frames { handler = after }
 abbrev pub line_call : List Pending → Frames → Call
 line_call [] frames = call.TaskExit
 line_call (next ∷ pending) frames = call_of next.line.call (frame_at frames next.frame)
-
--- the number of the handler in a group of a tick's bytes: the last four of its twelve
-abbrev pub group_number : List ℕ → ℕ
-group_number group = from_be_bytes w32 (take 4 (drop 8 group))
 
 -- the numbers of the handlers in a tick's bytes, from so many whole groups at most
 unfoldable pub handler_numbers : ℕ → List ℕ → List ℕ

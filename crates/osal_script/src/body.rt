@@ -9,7 +9,7 @@ use osal_line::BodyKind;
 use std::marker::Model;
 
 /// A named script.
-#[derive(Debug, Drop)]
+#[derive(Drop)]
 pub struct Body {
     name: Name,
     kind: BodyKind,
@@ -60,7 +60,7 @@ impl Body {
 }
 
 /// An application: at least one body, of which the first is a task.
-#[derive(Debug, Drop)]
+#[derive(Drop)]
 pub struct App {
     bodies: Vec<Body>,
 }

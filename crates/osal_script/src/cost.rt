@@ -1,15 +1,16 @@
 //! What an application costs: a bound on the entries of its runs.
 ghost use Rattle.std.specs.Prelude.{◌≡◌, ◌<◌, ◌-◌, ◌^◌, [], ◌∷◌, length, min};
-ghost use Rattle.osal_line.specs.Saturated.{saturated, prices_of};
+ghost use Rattle.osal_price.specs.Saturated.{saturated, prices_of};
 ghost use Rattle.osal_script.specs.Cost as cost;
 ghost use Rattle.osal_script.specs.Cost.{cost_of, first_cost, greatest_handler, level_costs};
 ghost use Rattle.osal_script.specs.Nesting.{IsNested};
 ghost use Rattle.osal_script.specs.Saturated.{onto_saturated, repeated_saturated};
 
-use crate::handling::TIMER_LIMIT;
 use crate::{App, Body, Item};
 use osal_base::Limits;
-use osal_line::{BodyKind, Prices, line_cost};
+use osal_call::TIMER_LIMIT;
+use osal_line::BodyKind;
+use osal_price::{Prices, line_cost};
 use std::marker::Model;
 
 /// The costs of the levels that are open at an item, the innermost last.
@@ -95,7 +96,7 @@ impl App {
     fn tick_cost(&self) -> u64
         ensures { result ≡ saturated (cost.tick_cost self.now.bodies) }
     {
-        let timers = Limits::version1().timers.min(TIMER_LIMIT);
+        let timers = Limits::version1().timers.min(TIMER_LIMIT as u32);
         u64::from(timers).saturating_mul(self.greatest_handler())
     }
 

@@ -1,7 +1,7 @@
 //! The cursor: how far a task has come in its script.
 ghost use Rattle.std.specs.Prelude.{◌≡◌, Some, IfOk, OnErr, OnOk, option_copied, option_map, if◌then◌else◌};
 ghost use Rattle.osal_base.specs.Reply.{reply_of, is_waits};
-ghost use Rattle.osal_machine.specs.Call.{said};
+ghost use Rattle.osal_call.specs.Call.{said};
 ghost use Rattle.osal_script.specs.declared.phase.Phase.TheVariants as phase;
 ghost use Rattle.osal_script.specs.Script as script;
 ghost use Rattle.osal_script.specs.Script.{start_of, after, after_answer};
@@ -11,13 +11,13 @@ use crate::handling::Handling;
 use crate::walk::Walk;
 use crate::{App, Body, Phase};
 use osal_base::{Answer, OutOfMemory, Reply};
+use osal_call::{Call, part_of};
 use osal_line::{Line, ScriptCall, TaskCall, call_made, part_made, set_register};
-use osal_machine::{Call, part_of};
 use std::alloc::Global;
 use std::marker::Model;
 
 /// What a cursor gives.
-#[derive(Debug, Drop)]
+#[derive(Drop)]
 pub enum Step {
     /// The call to make, and the line that it belongs to: 0 for the exit at the end of a body.
     Make { line: u32, call: Call },

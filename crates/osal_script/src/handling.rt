@@ -5,22 +5,17 @@ ghost use Rattle.osal_base.specs.Reply.{reply_of};
 ghost use Rattle.osal_line.specs.Calls.{register_of};
 ghost use Rattle.osal_line.specs.Held.{registers_after};
 ghost use Rattle.osal_script.specs.Script as script;
-ghost use Rattle.osal_script.specs.Script.{group_number, handler_lines, handler_numbers, in_body, put_in};
-ghost use Rattle.osal_time.specs.Timebase.{timer_limit};
+ghost use Rattle.osal_script.specs.Script.{handler_lines, handler_numbers, in_body, put_in};
+ghost use Rattle.osal_call.specs.Firing.{timer_limit};
 ghost use Rattle.osal_script.specs.Handling.{no_handlers, pending_in, registers_in};
 ghost use Rattle.osal_script.specs.Walk.{first_of};
 
 use crate::App;
 use crate::walk::Walk;
 use osal_base::{Answer, Reply};
+use osal_call::{FIRING_LENGTH, TIMER_LIMIT, handler_at};
 use osal_line::{BodyKind, Line, ScriptCall, set_register};
 use std::marker::Model;
-
-/// The most timers that fire in a tick.
-pub(crate) const TIMER_LIMIT: u32 = 64;
-
-/// The bytes that a tick gives of each timer that fires; the last four are the number of its handler.
-const GROUP: usize = 12;
 
 /// The numbers of the bodies that a tick's bytes name and that have not had their turn, the next one on top.
 #[derive(Drop)]
@@ -203,23 +198,10 @@ fn handlers_in(bytes: &[u8]) -> HandlerNumbers
     ensures { result ≡ handler_numbers timer_limit bytes.now }
 {
     let mut waiting = HandlerNumbers::none();
-    let mut at = (bytes.len() / GROUP).min(TIMER_LIMIT as usize);
+    let mut at = (bytes.len() / FIRING_LENGTH).min(TIMER_LIMIT);
     while 0 < at {
         at -= 1;
-        waiting.push(number_at(bytes, GROUP * at));
+        waiting.push(handler_at(bytes, FIRING_LENGTH * at));
     }
     waiting
-}
-
-/// The number of the handler in the group that starts there.
-fn number_at(bytes: &[u8], start: usize) -> u32
-    requires { start + 12 ≤ length bytes.now }
-    ensures { result ≡ group_number (drop start bytes.now) }
-{
-    u32::from_be_bytes([
-        bytes[start + 8],
-        bytes[start + 9],
-        bytes[start + 10],
-        bytes[start + 11],
-    ])
 }

@@ -4,7 +4,7 @@ use osal_line::Line;
 /// What a body is made of, in the order of its lines.
 ///
 /// A repeat goes on to its end, with at least one call line in it: a repeat without one does nothing and is left out.
-#[derive(Debug, Drop)]
+#[derive(Drop)]
 pub enum Item {
     /// A call line.
     Call(Line),

@@ -3,14 +3,16 @@ ghost use Rattle.std.specs.Prelude.{◌≡◌, IsOk, IfOk, is_some};
 ghost use Rattle.osal_base.specs.Limits.{Fits};
 ghost use Rattle.osal_base.specs.Reply.{replied};
 ghost use Rattle.osal_idtable.specs.Table.{active_at};
-ghost use Rattle.osal_sem.specs.Binary.{no_bin_sems, bin_sem_create_step, bin_sem_take_step, bin_sem_give_step, bin_sem_flush_step, bin_sem_delete_step, bin_sem_find_step, bin_sem_info_step, hold_step, release_step};
+ghost use Rattle.osal_object.specs.Outcomes.{Find, Remove, Hold, Release};
+ghost use Rattle.osal_sem.specs.Binary.{no_bin_sems, done, bin_sem_create, bin_sem_take, bin_sem_give, bin_sem_flush, bin_sem_info};
 
 mod waiting;
 
 use osal_base::{
     Ack, Bytes, Limits, Moment, Name, ObjType, OsalId, OutOfMemory, Room, Status, Timeout,
 };
-use osal_idtable::{Objects, Standing, WaitRecord, status_of_name};
+use osal_idtable::status_of_name;
+use osal_object::{Objects, Standing, WaitRecord};
 use std::alloc::Global;
 use std::marker::Model;
 
@@ -29,7 +31,7 @@ pub struct BinSemPart {
 impl Model for BinSemPart {
     ghost use Rattle.osal_sem.specs.Binary.{BinSemState};
     ghost use Rattle.std.specs.Coded.{codes};
-    ghost use Rattle.osal_idtable.specs.Code.{objects_code};
+    ghost use Rattle.osal_object.specs.Code.{objects_code};
 
     ghost Value = { BinSemState };
 
@@ -56,14 +58,14 @@ impl BinSemPart {
     pub fn bin_sem_create(
         &mut self,
         _alloc: Global,
-        _task: OsalId,
-        _now: Moment,
+        task: OsalId,
+        now: Moment,
         name: &Bytes,
         value: u32,
         room: &mut Room,
     ) -> Result<Ack, OutOfMemory>
         ensures step { IfOk result (λ ack. (replied ack room.new, self.new)
-            ≡ bin_sem_create_step self.old name.now.bytes value) }
+            ≡ done self.old task now (bin_sem_create name.now.bytes value)) }
         ensures memory { IsOk result }
     {
         room.clear();
@@ -87,7 +89,7 @@ impl BinSemPart {
         room: &mut Room,
     ) -> Result<Ack, OutOfMemory>
         ensures step { IfOk result (λ ack. (replied ack room.new, self.new)
-            ≡ bin_sem_take_step self.old task now id wait) }
+            ≡ done self.old task now (bin_sem_take id wait)) }
         ensures memory { IsOk result }
     {
         room.clear();
@@ -110,12 +112,12 @@ impl BinSemPart {
     pub fn bin_sem_give(
         &mut self,
         _alloc: Global,
-        _task: OsalId,
-        _now: Moment,
+        task: OsalId,
+        now: Moment,
         id: OsalId,
         room: &mut Room,
     ) -> Result<Ack, OutOfMemory>
-        ensures step { IfOk result (λ ack. (replied ack room.new, self.new) ≡ bin_sem_give_step self.old id) }
+        ensures step { IfOk result (λ ack. (replied ack room.new, self.new) ≡ done self.old task now (bin_sem_give id)) }
         ensures memory { IsOk result }
     {
         room.clear();
@@ -130,12 +132,12 @@ impl BinSemPart {
     pub fn bin_sem_flush(
         &mut self,
         _alloc: Global,
-        _task: OsalId,
-        _now: Moment,
+        task: OsalId,
+        now: Moment,
         id: OsalId,
         room: &mut Room,
     ) -> Result<Ack, OutOfMemory>
-        ensures step { IfOk result (λ ack. (replied ack room.new, self.new) ≡ bin_sem_flush_step self.old id) }
+        ensures step { IfOk result (λ ack. (replied ack room.new, self.new) ≡ done self.old task now (bin_sem_flush id)) }
         ensures memory { IsOk result }
     {
         room.clear();
@@ -150,12 +152,12 @@ impl BinSemPart {
     pub fn bin_sem_delete(
         &mut self,
         _alloc: Global,
-        _task: OsalId,
-        _now: Moment,
+        task: OsalId,
+        now: Moment,
         id: OsalId,
         room: &mut Room,
     ) -> Result<Ack, OutOfMemory>
-        ensures step { IfOk result (λ ack. (replied ack room.new, self.new) ≡ bin_sem_delete_step self.old id) }
+        ensures step { IfOk result (λ ack. (replied ack room.new, self.new) ≡ done self.old task now (Remove id)) }
         ensures memory { IsOk result }
     {
         room.clear();
@@ -166,12 +168,12 @@ impl BinSemPart {
     pub fn bin_sem_find(
         &mut self,
         _alloc: Global,
-        _task: OsalId,
-        _now: Moment,
+        task: OsalId,
+        now: Moment,
         name: &Bytes,
         room: &mut Room,
     ) -> Result<Ack, OutOfMemory>
-        ensures step { IfOk result (λ ack. (replied ack room.new, self.new) ≡ bin_sem_find_step self.old name.now.bytes) }
+        ensures step { IfOk result (λ ack. (replied ack room.new, self.new) ≡ done self.old task now (Find name.now.bytes)) }
         ensures memory { IsOk result }
     {
         room.clear();
@@ -182,12 +184,12 @@ impl BinSemPart {
     pub fn bin_sem_info(
         &mut self,
         _alloc: Global,
-        _task: OsalId,
-        _now: Moment,
+        task: OsalId,
+        now: Moment,
         id: OsalId,
         room: &mut Room,
     ) -> Result<Ack, OutOfMemory>
-        ensures step { IfOk result (λ ack. (replied ack room.new, self.new) ≡ bin_sem_info_step self.old id) }
+        ensures step { IfOk result (λ ack. (replied ack room.new, self.new) ≡ done self.old task now (bin_sem_info id)) }
         ensures memory { IsOk result }
     {
         room.clear();
@@ -202,12 +204,12 @@ impl BinSemPart {
     pub fn hold(
         &mut self,
         _alloc: Global,
-        _task: OsalId,
-        _now: Moment,
+        task: OsalId,
+        now: Moment,
         id: OsalId,
         room: &mut Room,
     ) -> Result<Ack, OutOfMemory>
-        ensures step { IfOk result (λ ack. (replied ack room.new, self.new) ≡ hold_step self.old id) }
+        ensures step { IfOk result (λ ack. (replied ack room.new, self.new) ≡ done self.old task now (Hold id)) }
         ensures memory { IsOk result }
     {
         room.clear();
@@ -218,12 +220,12 @@ impl BinSemPart {
     pub fn release(
         &mut self,
         _alloc: Global,
-        _task: OsalId,
-        _now: Moment,
+        task: OsalId,
+        now: Moment,
         id: OsalId,
         room: &mut Room,
     ) -> Result<Ack, OutOfMemory>
-        ensures step { IfOk result (λ ack. (replied ack room.new, self.new) ≡ release_step self.old id) }
+        ensures step { IfOk result (λ ack. (replied ack room.new, self.new) ≡ done self.old task now (Release id)) }
         ensures memory { IsOk result }
     {
         room.clear();

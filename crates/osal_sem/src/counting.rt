@@ -3,14 +3,16 @@ ghost use Rattle.std.specs.Prelude.{◌≡◌, IsOk, IfOk, is_some};
 ghost use Rattle.osal_base.specs.Limits.{Fits};
 ghost use Rattle.osal_base.specs.Reply.{replied};
 ghost use Rattle.osal_idtable.specs.Table.{active_at};
-ghost use Rattle.osal_sem.specs.Counting.{no_count_sems, count_sem_create_step, count_sem_give_step, count_sem_take_step, count_sem_delete_step, count_sem_find_step, count_sem_info_step, hold_step, release_step};
+ghost use Rattle.osal_object.specs.Outcomes.{Find, Remove, Hold, Release};
+ghost use Rattle.osal_sem.specs.Counting.{no_count_sems, done, count_sem_create, count_sem_take, count_sem_give, count_sem_info};
 
 mod waiting;
 
 use osal_base::{
     Ack, Bytes, Limits, Moment, Name, ObjType, OsalId, OutOfMemory, Room, Status, Timeout,
 };
-use osal_idtable::{Objects, Standing, WaitRecord, status_of_name};
+use osal_idtable::status_of_name;
+use osal_object::{Objects, Standing, WaitRecord};
 use std::alloc::Global;
 use std::marker::Model;
 
@@ -33,7 +35,7 @@ pub struct CountSemPart {
 impl Model for CountSemPart {
     ghost use Rattle.osal_sem.specs.Counting.{CountSemState};
     ghost use Rattle.std.specs.Coded.{codes};
-    ghost use Rattle.osal_idtable.specs.Code.{objects_code};
+    ghost use Rattle.osal_object.specs.Code.{objects_code};
 
     ghost Value = { CountSemState };
 
@@ -60,14 +62,14 @@ impl CountSemPart {
     pub fn count_sem_create(
         &mut self,
         _alloc: Global,
-        _task: OsalId,
-        _now: Moment,
+        task: OsalId,
+        now: Moment,
         name: &Bytes,
         value: u32,
         room: &mut Room,
     ) -> Result<Ack, OutOfMemory>
         ensures step { IfOk result (λ ack. (replied ack room.new, self.new)
-            ≡ count_sem_create_step self.old name.now.bytes value) }
+            ≡ done self.old task now (count_sem_create name.now.bytes value)) }
         ensures memory { IsOk result }
     {
         room.clear();
@@ -94,7 +96,7 @@ impl CountSemPart {
         room: &mut Room,
     ) -> Result<Ack, OutOfMemory>
         ensures step { IfOk result (λ ack. (replied ack room.new, self.new)
-            ≡ count_sem_take_step self.old task now id wait) }
+            ≡ done self.old task now (count_sem_take id wait)) }
         ensures memory { IsOk result }
     {
         room.clear();
@@ -117,12 +119,12 @@ impl CountSemPart {
     pub fn count_sem_give(
         &mut self,
         _alloc: Global,
-        _task: OsalId,
-        _now: Moment,
+        task: OsalId,
+        now: Moment,
         id: OsalId,
         room: &mut Room,
     ) -> Result<Ack, OutOfMemory>
-        ensures step { IfOk result (λ ack. (replied ack room.new, self.new) ≡ count_sem_give_step self.old id) }
+        ensures step { IfOk result (λ ack. (replied ack room.new, self.new) ≡ done self.old task now (count_sem_give id)) }
         ensures memory { IsOk result }
     {
         room.clear();
@@ -141,12 +143,12 @@ impl CountSemPart {
     pub fn count_sem_delete(
         &mut self,
         _alloc: Global,
-        _task: OsalId,
-        _now: Moment,
+        task: OsalId,
+        now: Moment,
         id: OsalId,
         room: &mut Room,
     ) -> Result<Ack, OutOfMemory>
-        ensures step { IfOk result (λ ack. (replied ack room.new, self.new) ≡ count_sem_delete_step self.old id) }
+        ensures step { IfOk result (λ ack. (replied ack room.new, self.new) ≡ done self.old task now (Remove id)) }
         ensures memory { IsOk result }
     {
         room.clear();
@@ -157,13 +159,13 @@ impl CountSemPart {
     pub fn count_sem_find(
         &mut self,
         _alloc: Global,
-        _task: OsalId,
-        _now: Moment,
+        task: OsalId,
+        now: Moment,
         name: &Bytes,
         room: &mut Room,
     ) -> Result<Ack, OutOfMemory>
         ensures step { IfOk result (λ ack. (replied ack room.new, self.new)
-            ≡ count_sem_find_step self.old name.now.bytes) }
+            ≡ done self.old task now (Find name.now.bytes)) }
         ensures memory { IsOk result }
     {
         room.clear();
@@ -174,12 +176,12 @@ impl CountSemPart {
     pub fn count_sem_info(
         &mut self,
         _alloc: Global,
-        _task: OsalId,
-        _now: Moment,
+        task: OsalId,
+        now: Moment,
         id: OsalId,
         room: &mut Room,
     ) -> Result<Ack, OutOfMemory>
-        ensures step { IfOk result (λ ack. (replied ack room.new, self.new) ≡ count_sem_info_step self.old id) }
+        ensures step { IfOk result (λ ack. (replied ack room.new, self.new) ≡ done self.old task now (count_sem_info id)) }
         ensures memory { IsOk result }
     {
         room.clear();
@@ -194,12 +196,12 @@ impl CountSemPart {
     pub fn hold(
         &mut self,
         _alloc: Global,
-        _task: OsalId,
-        _now: Moment,
+        task: OsalId,
+        now: Moment,
         id: OsalId,
         room: &mut Room,
     ) -> Result<Ack, OutOfMemory>
-        ensures step { IfOk result (λ ack. (replied ack room.new, self.new) ≡ hold_step self.old id) }
+        ensures step { IfOk result (λ ack. (replied ack room.new, self.new) ≡ done self.old task now (Hold id)) }
         ensures memory { IsOk result }
     {
         room.clear();
@@ -210,12 +212,12 @@ impl CountSemPart {
     pub fn release(
         &mut self,
         _alloc: Global,
-        _task: OsalId,
-        _now: Moment,
+        task: OsalId,
+        now: Moment,
         id: OsalId,
         room: &mut Room,
     ) -> Result<Ack, OutOfMemory>
-        ensures step { IfOk result (λ ack. (replied ack room.new, self.new) ≡ release_step self.old id) }
+        ensures step { IfOk result (λ ack. (replied ack room.new, self.new) ≡ done self.old task now (Release id)) }
         ensures memory { IsOk result }
     {
         room.clear();

@@ -3,8 +3,6 @@
 
 mod binary;
 mod counting;
-#[cfg(test)]
-mod tests;
 
 pub use binary::{BinSem, BinSemPart};
 pub use counting::{CountSem, CountSemPart};

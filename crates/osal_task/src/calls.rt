@@ -1,7 +1,8 @@
 //! The calls of OSAL's `osapi-task.h`, and the checkpoint.
 ghost use Rattle.std.specs.Prelude.{◌≡◌, IsOk, IfOk};
 ghost use Rattle.osal_base.specs.Reply.{replied};
-ghost use Rattle.osal_task.specs.Tasks.{task_create_step, task_exit_step, task_delete_step, task_set_priority_step, task_find_step, task_info_step, checkpoint_step};
+ghost use Rattle.osal_object.specs.Outcomes.{Find, Remove};
+ghost use Rattle.osal_task.specs.Tasks.{done, task_create, task_delete, task_set_priority, task_info, checkpoint};
 
 use crate::{Task, TaskPart};
 use osal_base::{Ack, Bytes, Moment, Name, OsalId, OutOfMemory, Room, Status};
@@ -18,8 +19,8 @@ impl TaskPart {
     pub fn task_create(
         &mut self,
         _alloc: Global,
-        _task: OsalId,
-        _now: Moment,
+        task: OsalId,
+        now: Moment,
         name: &Bytes,
         body: u32,
         stack: u32,
@@ -27,7 +28,7 @@ impl TaskPart {
         room: &mut Room,
     ) -> Result<Ack, OutOfMemory>
         ensures step { IfOk result (λ ack. (replied ack room.new, self.new)
-            ≡ task_create_step self.old name.now.bytes body stack priority) }
+            ≡ done self.old task now (task_create name.now.bytes body stack priority)) }
         ensures memory { IsOk result }
     {
         room.clear();
@@ -52,10 +53,10 @@ impl TaskPart {
         &mut self,
         _alloc: Global,
         task: OsalId,
-        _now: Moment,
+        now: Moment,
         room: &mut Room,
     ) -> Result<Ack, OutOfMemory>
-        ensures step { IfOk result (λ ack. (replied ack room.new, self.new) ≡ task_exit_step self.old task) }
+        ensures step { IfOk result (λ ack. (replied ack room.new, self.new) ≡ done self.old task now (Remove task)) }
         ensures memory { IsOk result }
     {
         room.clear();
@@ -66,12 +67,12 @@ impl TaskPart {
     pub fn task_delete(
         &mut self,
         _alloc: Global,
-        _task: OsalId,
-        _now: Moment,
+        task: OsalId,
+        now: Moment,
         id: OsalId,
         room: &mut Room,
     ) -> Result<Ack, OutOfMemory>
-        ensures step { IfOk result (λ ack. (replied ack room.new, self.new) ≡ task_delete_step self.old id) }
+        ensures step { IfOk result (λ ack. (replied ack room.new, self.new) ≡ done self.old task now (task_delete id)) }
         ensures memory { IsOk result }
     {
         room.clear();
@@ -99,14 +100,14 @@ impl TaskPart {
     pub fn task_set_priority(
         &mut self,
         _alloc: Global,
-        _task: OsalId,
-        _now: Moment,
+        task: OsalId,
+        now: Moment,
         id: OsalId,
         priority: u32,
         room: &mut Room,
     ) -> Result<Ack, OutOfMemory>
         ensures step { IfOk result (λ ack. (replied ack room.new, self.new)
-            ≡ task_set_priority_step self.old id priority) }
+            ≡ done self.old task now (task_set_priority id priority)) }
         ensures memory { IsOk result }
     {
         room.clear();
@@ -125,12 +126,12 @@ impl TaskPart {
     pub fn task_find(
         &mut self,
         _alloc: Global,
-        _task: OsalId,
-        _now: Moment,
+        task: OsalId,
+        now: Moment,
         name: &Bytes,
         room: &mut Room,
     ) -> Result<Ack, OutOfMemory>
-        ensures step { IfOk result (λ ack. (replied ack room.new, self.new) ≡ task_find_step self.old name.now.bytes) }
+        ensures step { IfOk result (λ ack. (replied ack room.new, self.new) ≡ done self.old task now (Find name.now.bytes)) }
         ensures memory { IsOk result }
     {
         room.clear();
@@ -141,12 +142,12 @@ impl TaskPart {
     pub fn task_info(
         &mut self,
         _alloc: Global,
-        _task: OsalId,
-        _now: Moment,
+        task: OsalId,
+        now: Moment,
         id: OsalId,
         room: &mut Room,
     ) -> Result<Ack, OutOfMemory>
-        ensures step { IfOk result (λ ack. (replied ack room.new, self.new) ≡ task_info_step self.old id) }
+        ensures step { IfOk result (λ ack. (replied ack room.new, self.new) ≡ done self.old task now (task_info id)) }
         ensures memory { IsOk result }
     {
         room.clear();
@@ -162,10 +163,10 @@ impl TaskPart {
         &mut self,
         _alloc: Global,
         task: OsalId,
-        _now: Moment,
+        now: Moment,
         room: &mut Room,
     ) -> Result<Ack, OutOfMemory>
-        ensures step { IfOk result (λ ack. (replied ack room.new, self.new) ≡ checkpoint_step self.old task) }
+        ensures step { IfOk result (λ ack. (replied ack room.new, self.new) ≡ done self.old task now (checkpoint task)) }
         ensures memory { IsOk result }
     {
         room.clear();

@@ -1,12 +1,13 @@
 //! How a task waits for time to pass.
 ghost use Rattle.std.specs.Prelude.{◌≡◌, ◌<◌, ◌⊎◌, IsOk, IfOk};
 ghost use Rattle.osal_base.specs.Reply.{replied};
-ghost use Rattle.osal_idtable.specs.Deadlines.{deadlines_in, least};
-ghost use Rattle.osal_task.specs.Delays.{task_delay_step, wait_end_step, wait_abandon_step, ready};
+ghost use Rattle.osal_object.specs.Deadlines.{deadlines_in, least};
+ghost use Rattle.osal_task.specs.Tasks.{done};
+ghost use Rattle.osal_task.specs.Delays.{task_delay, wait_end_step, wait_abandon_step, ready};
 
 use crate::TaskPart;
 use osal_base::{Ack, Moment, OsalId, OutOfMemory, Room, Status, Timeout};
-use osal_idtable::{Standing, WaitRecord};
+use osal_object::{Standing, WaitRecord};
 use std::alloc::Global;
 
 impl TaskPart {
@@ -19,7 +20,7 @@ impl TaskPart {
         ms: u32,
         room: &mut Room,
     ) -> Result<Ack, OutOfMemory>
-        ensures step { IfOk result (λ ack. (replied ack room.new, self.new) ≡ task_delay_step self.old task now ms) }
+        ensures step { IfOk result (λ ack. (replied ack room.new, self.new) ≡ done self.old task now (task_delay ms)) }
         ensures memory { IsOk result }
     {
         room.clear();

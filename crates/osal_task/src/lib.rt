@@ -4,7 +4,5 @@
 mod calls;
 mod delays;
 mod part;
-#[cfg(test)]
-mod tests;
 
 pub use part::{Task, TaskPart};

@@ -3,10 +3,11 @@ ghost use Rattle.std.specs.Prelude.{◌≡◌, IsOk, IfOk, is_some};
 ghost use Rattle.osal_base.specs.Limits.{Fits};
 ghost use Rattle.osal_base.specs.Reply.{replied};
 ghost use Rattle.osal_idtable.specs.Table.{active_at};
-ghost use Rattle.osal_task.specs.Tasks.{no_tasks, sizes_of, hold_step, release_step, goes};
+ghost use Rattle.osal_object.specs.Outcomes.{Release};
+ghost use Rattle.osal_task.specs.Tasks.{no_tasks, done, sizes_of, hold, goes};
 
 use osal_base::{Ack, Limits, Moment, ObjType, OsalId, OutOfMemory, Room, Status};
-use osal_idtable::Objects;
+use osal_object::Objects;
 use std::alloc::Global;
 use std::marker::Model;
 
@@ -43,7 +44,7 @@ pub struct TaskPart {
 impl Model for TaskPart {
     ghost use Rattle.osal_task.specs.Tasks.{TaskState};
     ghost use Rattle.std.specs.Coded.{codes};
-    ghost use Rattle.osal_idtable.specs.Code.{objects_code};
+    ghost use Rattle.osal_object.specs.Code.{objects_code};
 
     ghost Value = { TaskState };
 
@@ -68,12 +69,12 @@ impl TaskPart {
     pub fn hold(
         &mut self,
         _alloc: Global,
-        _task: OsalId,
-        _now: Moment,
+        task: OsalId,
+        now: Moment,
         id: OsalId,
         room: &mut Room,
     ) -> Result<Ack, OutOfMemory>
-        ensures step { IfOk result (λ ack. (replied ack room.new, self.new) ≡ hold_step self.old id) }
+        ensures step { IfOk result (λ ack. (replied ack room.new, self.new) ≡ done self.old task now (hold id)) }
         ensures memory { IsOk result }
     {
         room.clear();
@@ -91,12 +92,12 @@ impl TaskPart {
     pub fn release(
         &mut self,
         _alloc: Global,
-        _task: OsalId,
-        _now: Moment,
+        task: OsalId,
+        now: Moment,
         id: OsalId,
         room: &mut Room,
     ) -> Result<Ack, OutOfMemory>
-        ensures step { IfOk result (λ ack. (replied ack room.new, self.new) ≡ release_step self.old id) }
+        ensures step { IfOk result (λ ack. (replied ack room.new, self.new) ≡ done self.old task now (Release id)) }
         ensures memory { IsOk result }
     {
         room.clear();

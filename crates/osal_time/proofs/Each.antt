@@ -7,10 +7,10 @@ use Rattle.osal_idtable.specs.declared.table.IdFault.{IdFault}
 use Rattle.osal_idtable.specs.declared.table.ReserveFault.{ReserveFault}
 use Rattle.osal_idtable.specs.Table.{Active, TableState, Reserved, active_at, replaced}
 use Rattle.osal_idtable.specs.Steps.{reserve_step, settle, take_out, unheld}
-use Rattle.osal_idtable.specs.Objects.{ObjectsState, with_value, created, create_step, delete_step, hold_call_step, release_call_step}
+use Rattle.osal_object.specs.Objects.{ObjectsState, with_value, created, create_step, delete_step, hold_call_step, release_call_step}
 use Rattle.osal_idtable.proofs.WellFormed.{put_here, put_there, gone_here, gone_there}
-use Rattle.osal_idtable.proofs.Activity.{reserve_active}
-use Rattle.osal_idtable.proofs.SameObjects.{object_of, object_at, SameObjects, caller_hold_same, caller_release_same}
+use Rattle.osal_object.proofs.Activity.{reserve_active}
+use Rattle.osal_object.proofs.SameObjects.{object_of, object_at, SameObjects, caller_hold_same, caller_release_same}
 
 -- what holds of what stands under an identifier holds of its object
 pub of_object : {T : Type 0} (P : T → Type 0) (found : Option (Active T)) (object : T) → ((active : Active T) → found ≡ Some active → P active.object) → object_of found ≡ Some object → P object
@@ -74,10 +74,9 @@ module _ {T : Type 0} (P : ℕ → T → Type 0) where
     pub each_delete : (id : ℕ) → Each objects.table.active → Each (delete_step objects id).1.table.active
     each_delete id = each_taken objects.table id (unheld (active_at objects.table id))
 
-    -- a removal of what nobody holds, where it holds of the others
-    pub each_left : (id : ℕ) (object : T) → unheld (active_at objects.table id) ≡ Ok object → EachOther id objects.table.active → Each (delete_step objects id).1.table.active
-    each_left id object is others =
-        subst (λ r. Each (take_out objects.table id r).1.active) (sym is) (each_removed objects.table.active id others)
+    -- an object that is taken out, where it holds of the others
+    pub each_left : (id : ℕ) (object : T) → EachOther id objects.table.active → Each (take_out objects.table id (Ok object)).1.active
+    each_left id object others = each_removed objects.table.active id others
 
     -- a new object under the identifier that was reserved for it
     pub each_made : (name : List ℕ) (object : T) (reserved : Reserved) → Each objects.table.active → P reserved.id object → Each (created objects object (Ok reserved) (reserve_step objects.table (Some name)).1).1.table.active

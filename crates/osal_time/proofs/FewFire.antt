@@ -12,7 +12,8 @@ use Rattle.osal_idtable.specs.WellFormed.{IsWellFormed, known_as}
 use Rattle.osal_idtable.proofs.Keyed.{apart}
 use Rattle.osal_time.specs.declared.timer.Timer.{Timer}
 use Rattle.osal_time.specs.Expiry.{expiries_between}
-use Rattle.osal_time.specs.Ticks.{Firing, firing_for, firing_of, firings}
+use Rattle.osal_time.specs.Ticks.{firing_for, firing_of, firings}
+use Rattle.osal_call.specs.Firing.{Firing}
 use Rattle.osal_time.specs.Time.{TimeState}
 use Rattle.osal_time.specs.Attachment.{IsAttached, FewFire}
 

@@ -6,12 +6,13 @@ use Rattle.std.proofs.lemmas.Bool.{both_ways, cases_eq, cond_both, eq-eqb, eqb-t
 use Rattle.std.proofs.lemmas.List.{length-append}
 use Rattle.std.proofs.lemmas.Map.Views.{any-filter_same, Contains-from_any, list_any-from_Contains}
 use Rattle.osal_idtable.specs.Table.{Active, replaced}
-use Rattle.osal_idtable.specs.Objects.{ObjectsState, with_value}
+use Rattle.osal_object.specs.Objects.{ObjectsState, with_value}
 use Rattle.osal_idtable.proofs.Holding.{either}
 use Rattle.osal_idtable.proofs.Keyed.{apart}
-use Rattle.osal_idtable.proofs.Records.{all_kept, all_more, fewer_kept}
-use Rattle.osal_idtable.proofs.SameObjects.{object_of, object_at, put_elsewhere, written_here}
-use Rattle.osal_time.specs.Timebase.{Timebase, timer_limit, with_timer, without_timer}
+use Rattle.osal_object.proofs.Records.{all_kept, all_more, fewer_kept}
+use Rattle.osal_object.proofs.SameObjects.{object_of, object_at, put_elsewhere, written_here}
+use Rattle.osal_time.specs.Timebase.{Timebase, with_timer, without_timer}
+use Rattle.osal_call.specs.Firing.{timer_limit}
 use Rattle.osal_time.specs.declared.timer.Timer.{Timer}
 use Rattle.osal_time.specs.Time.{TimeState, timebase_at, timer_at}
 use Rattle.osal_time.specs.Attachment.{IsAttached, IsListed, HasOwnTimers}

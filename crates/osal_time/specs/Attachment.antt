@@ -2,14 +2,16 @@
 use Rattle.std.specs.Prelude.{◌≡◌, ◌≤◌, ℕ, List, length, nat_eq, Some, min}
 use Rattle.std.specs.List.{AllByRecursion, Contains, IsDistinct}
 use Rattle.osal_base.specs.declared.limits.Limits.{Limits}
+use Rattle.osal_base.specs.declared.time.Moment.{Moment}
 use Rattle.osal_base.specs.Limits.{Fits}
 use Rattle.osal_idtable.specs.Table.{Active}
 use Rattle.osal_idtable.specs.WellFormed.{IsWellFormed}
-use Rattle.osal_time.specs.Timebase.{Timebase, timer_limit}
+use Rattle.osal_time.specs.Timebase.{Timebase}
+use Rattle.osal_call.specs.Firing.{timer_limit}
 use Rattle.osal_time.specs.declared.timer.Timer.{Timer}
-use Rattle.osal_time.specs.Time.{TimeState, time_start, timebase_at, timer_at, hold_step, release_step, advance_step}
-use Rattle.osal_time.specs.Ticks.{firings, timebase_create_step, timebase_tick_step, timebase_delete_step}
-use Rattle.osal_time.specs.Timers.{timer_add_step, timer_set_step, timer_delete_step}
+use Rattle.osal_time.specs.Time.{TimeState, time_start, timebase_at, timer_at, Advance, done, held, released}
+use Rattle.osal_time.specs.Ticks.{firings, timebase_create, timebase_tick, timebase_delete}
+use Rattle.osal_time.specs.Timers.{timer_add, timer_set, timer_delete}
 
 -- a timer is active and one of a timebase's
 pub record IsAttached (time : TimeState) (timebase timer : ℕ) : Type 0 where
@@ -39,15 +41,15 @@ pub record AreAttached (capacity : ℕ) (time : TimeState) : Type 0 where
 -- this holds at the start, and each call keeps it
 pub record TimersStayAttached (limits : Limits) : Type 0 where
   pub start : Fits limits → AreAttached limits.timers (time_start limits)
-  pub create : (time : TimeState) (name : List ℕ) → AreAttached limits.timers time → AreAttached limits.timers (timebase_create_step time name).1
-  pub tick : (time : TimeState) (id usecs : ℕ) → AreAttached limits.timers time → AreAttached limits.timers (timebase_tick_step time id usecs).1
-  pub delete : (time : TimeState) (id : ℕ) → AreAttached limits.timers time → AreAttached limits.timers (timebase_delete_step time id).1
-  pub add : (time : TimeState) (name : List ℕ) (timebase handler : ℕ) → AreAttached limits.timers time → AreAttached limits.timers (timer_add_step time name timebase handler).1
-  pub set : (time : TimeState) (id start interval : ℕ) → AreAttached limits.timers time → AreAttached limits.timers (timer_set_step time id start interval).1
-  pub remove : (time : TimeState) (id : ℕ) → AreAttached limits.timers time → AreAttached limits.timers (timer_delete_step time id).1
-  pub hold : (time : TimeState) (id : ℕ) → AreAttached limits.timers time → AreAttached limits.timers (hold_step time id).1
-  pub release : (time : TimeState) (id : ℕ) → AreAttached limits.timers time → AreAttached limits.timers (release_step time id).1
-  pub advance : (time : TimeState) (to : ℕ) → AreAttached limits.timers time → AreAttached limits.timers (advance_step time to).1
+  pub create : (time : TimeState) (task : ℕ) (now : Moment) (name : List ℕ) → AreAttached limits.timers time → AreAttached limits.timers (done time task now (timebase_create name)).1
+  pub tick : (time : TimeState) (task : ℕ) (now : Moment) (id usecs : ℕ) → AreAttached limits.timers time → AreAttached limits.timers (done time task now (timebase_tick time id usecs)).1
+  pub delete : (time : TimeState) (task : ℕ) (now : Moment) (id : ℕ) → AreAttached limits.timers time → AreAttached limits.timers (done time task now (timebase_delete id)).1
+  pub add : (time : TimeState) (task : ℕ) (now : Moment) (name : List ℕ) (timebase handler : ℕ) → AreAttached limits.timers time → AreAttached limits.timers (done time task now (timer_add time name timebase handler)).1
+  pub set : (time : TimeState) (task : ℕ) (now : Moment) (id start interval : ℕ) → AreAttached limits.timers time → AreAttached limits.timers (done time task now (timer_set time id start interval)).1
+  pub remove : (time : TimeState) (task : ℕ) (now : Moment) (id : ℕ) → AreAttached limits.timers time → AreAttached limits.timers (done time task now (timer_delete time id)).1
+  pub hold : (time : TimeState) (task : ℕ) (now : Moment) (id : ℕ) → AreAttached limits.timers time → AreAttached limits.timers (done time task now (held id)).1
+  pub release : (time : TimeState) (task : ℕ) (now : Moment) (id : ℕ) → AreAttached limits.timers time → AreAttached limits.timers (done time task now (released id)).1
+  pub advance : (time : TimeState) (task : ℕ) (now : Moment) (to : ℕ) → AreAttached limits.timers time → AreAttached limits.timers (done time task now (Advance to)).1
 
 -- no more timers fire in a tick than one timebase may have, nor than there may be
 abbrev pub FewFire : Type 0

@@ -1,7 +1,8 @@
+pub use Rattle.osal_call.specs.Firing
 pub use Rattle.osal_idtable.specs.Table
 pub use Rattle.osal_idtable.specs.Steps
-pub use Rattle.osal_idtable.specs.Objects
-pub use Rattle.osal_idtable.specs.Waits
+pub use Rattle.osal_object.specs.Objects
+pub use Rattle.osal_object.specs.Waits
 pub mod Expiry
 pub mod Timebase
 pub mod Time

@@ -1,5 +1,5 @@
--- The time part: the timebases, the timers, and the moment that it is.
-use Rattle.std.specs.Prelude.{ℕ, Bool, ◌==◌, Option, is_some, nat_lt, if◌then◌else◌}
+-- The time part: the timebases, the timers, the moment that it is, and what a call does to them.
+use Rattle.std.specs.Prelude.{ℕ, List, Bool, ◌==◌, Option, is_some, nat_lt, if◌then◌else◌}
 use Rattle.osal_base.specs.declared.status.Status.TheVariants as status
 use Rattle.osal_base.specs.declared.id.ObjType.TheVariants as kind
 use Rattle.osal_base.specs.declared.limits.Limits.{Limits}
@@ -7,7 +7,9 @@ use Rattle.osal_base.specs.declared.time.Moment.{Moment}
 use Rattle.osal_base.specs.Identifier.{type_number, type_of}
 use Rattle.osal_base.specs.Reply.{Replied, refusal, success}
 use Rattle.osal_idtable.specs.Table.{Active, active_at}
-use Rattle.osal_idtable.specs.Objects.{ObjectsState, no_objects, hold_call_step, release_call_step}
+use Rattle.osal_object.specs.Objects.{ObjectsState, no_objects}
+use Rattle.osal_object.specs.Outcomes.{Write, Outcome, Hold, Release, carried_out}
+use Rattle.osal_object.specs.Across.{across}
 use Rattle.osal_time.specs.Timebase.{Timebase}
 use Rattle.osal_time.specs.declared.timer.Timer.{Timer}
 
@@ -33,6 +35,11 @@ in_timebases time stepped = (stepped.0, record time { timebases = stepped.1 })
 abbrev pub in_timers : TimeState → Replied × ObjectsState Timer (Unit {0}) → Replied × TimeState
 in_timers time stepped = (stepped.0, record time { timers = stepped.1 })
 
+-- a step of the timers that writes to the timebases where it succeeds
+abbrev pub in_both : TimeState → Replied × ObjectsState Timer (Unit {0}) → (Replied → List (Write Timebase (Unit {0}))) → Replied × TimeState
+in_both time stepped writes =
+    (stepped.0, record time { timebases = across stepped.0 writes time.timebases; timers = stepped.1 })
+
 -- the timebase under an identifier, if it is active
 abbrev pub timebase_at : TimeState → ℕ → Option (Active Timebase)
 timebase_at time id = active_at time.timebases.table id
@@ -49,21 +56,32 @@ is_timer id = type_of id == type_number kind.Timer
 abbrev pub is_active : TimeState → ℕ → Bool
 is_active time id = if is_timer id then is_some (timer_at time id) else is_some (timebase_at time id)
 
--- a hold of a timer or a timebase
-abbrev pub hold_step : TimeState → ℕ → Replied × TimeState
-hold_step time id =
-    if is_timer id then in_timers time (hold_call_step time.timers id)
-    else in_timebases time (hold_call_step time.timebases id)
-
--- the end of a hold of a timer or a timebase
-abbrev pub release_step : TimeState → ℕ → Replied × TimeState
-release_step time id =
-    if is_timer id then in_timers time (release_call_step time.timers id)
-    else in_timebases time (release_call_step time.timebases id)
-
 -- time goes on to a later moment; a moment that is not later is refused
 abbrev pub advance_step : TimeState → ℕ → Replied × TimeState
 advance_step time to =
     if nat_lt time.moment.ms to
     then (success, record time { moment = record { ms = to } })
     else (refusal status.Error, time)
+
+-- what a call does: an outcome over the timebases; one over the timers; one over the timers, and what it writes to the
+-- timebases where it succeeds; or time goes on
+pub data TimeCall : Type 0 where
+  OnTimebases : Outcome Timebase (Unit {0}) → TimeCall
+  OnTimers : Outcome Timer (Unit {0}) → TimeCall
+  OnBoth : Outcome Timer (Unit {0}) → (Replied → List (Write Timebase (Unit {0}))) → TimeCall
+  Advance : ℕ → TimeCall
+
+-- what a call of a task answers, and the part after it
+abbrev pub done : TimeState → ℕ → Moment → TimeCall → Replied × TimeState
+done time task now (OnTimebases outcome) = in_timebases time (carried_out time.timebases task now outcome)
+done time task now (OnTimers outcome) = in_timers time (carried_out time.timers task now outcome)
+done time task now (OnBoth outcome writes) = in_both time (carried_out time.timers task now outcome) writes
+done time task now (Advance to) = advance_step time to
+
+-- a hold of a timer or a timebase
+abbrev pub held : ℕ → TimeCall
+held id = if is_timer id then OnTimers (Hold id) else OnTimebases (Hold id)
+
+-- the end of a hold of a timer or a timebase
+abbrev pub released : ℕ → TimeCall
+released id = if is_timer id then OnTimers (Release id) else OnTimebases (Release id)

@@ -1,5 +1,6 @@
 -- A timebase: a running sum of microseconds, and the timers that are attached to it.
 use Rattle.std.specs.Prelude.{◌≤◌, ◌^◌, ◌++◌, ℕ, List, [], ◌∷◌, filter, length, not, ◌==◌}
+use Rattle.osal_call.specs.Firing.{timer_limit}
 
 -- the sum, and the timers in the order of their attachment
 pub record Timebase : Type 0 where
@@ -9,10 +10,6 @@ pub record Timebase : Type 0 where
 -- the most microseconds to which a timebase runs
 abbrev pub sum_limit : ℕ
 sum_limit = 2 ^ 62
-
--- the most timers on one timebase
-abbrev pub timer_limit : ℕ
-timer_limit = 64
 
 -- a timebase at the start of its time, without timers
 abbrev pub new_timebase : Timebase

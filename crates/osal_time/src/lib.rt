@@ -4,8 +4,6 @@
 
 pub mod laws;
 mod part;
-#[cfg(test)]
-mod tests;
 mod ticks;
 mod timebase;
 mod timer;

@@ -2,11 +2,11 @@
 ghost use Rattle.std.specs.Prelude.{◌≡◌, IsOk, IfOk};
 ghost use Rattle.osal_base.specs.Limits.{Fits};
 ghost use Rattle.osal_base.specs.Reply.{replied};
-ghost use Rattle.osal_time.specs.Time.{time_start, is_timer, is_active, hold_step, release_step, advance_step};
+ghost use Rattle.osal_time.specs.Time.{time_start, is_timer, is_active, Advance, done, held, released};
 
 use crate::{Timebase, Timer};
 use osal_base::{Ack, Limits, Moment, ObjType, OsalId, OutOfMemory, Room, Status};
-use osal_idtable::Objects;
+use osal_object::Objects;
 use std::alloc::Global;
 use std::marker::Model;
 
@@ -24,7 +24,7 @@ pub struct TimePart {
 impl Model for TimePart {
     ghost use Rattle.osal_time.specs.Time.{TimeState};
     ghost use Rattle.std.specs.Coded.{codes};
-    ghost use Rattle.osal_idtable.specs.Code.{objects_code};
+    ghost use Rattle.osal_object.specs.Code.{objects_code};
 
     ghost Value = { TimeState };
 
@@ -70,12 +70,12 @@ impl TimePart {
     pub fn advance(
         &mut self,
         _alloc: Global,
-        _task: OsalId,
-        _now: Moment,
+        task: OsalId,
+        now: Moment,
         to: u64,
         room: &mut Room,
     ) -> Result<Ack, OutOfMemory>
-        ensures step { IfOk result (λ ack. (replied ack room.new, self.new) ≡ advance_step self.old to) }
+        ensures step { IfOk result (λ ack. (replied ack room.new, self.new) ≡ done self.old task now (Advance to)) }
         ensures memory { IsOk result }
     {
         room.clear();
@@ -93,12 +93,12 @@ impl TimePart {
     pub fn hold(
         &mut self,
         _alloc: Global,
-        _task: OsalId,
-        _now: Moment,
+        task: OsalId,
+        now: Moment,
         id: OsalId,
         room: &mut Room,
     ) -> Result<Ack, OutOfMemory>
-        ensures step { IfOk result (λ ack. (replied ack room.new, self.new) ≡ hold_step self.old id) }
+        ensures step { IfOk result (λ ack. (replied ack room.new, self.new) ≡ done self.old task now (held id)) }
         ensures memory { IsOk result }
     {
         room.clear();
@@ -116,12 +116,12 @@ impl TimePart {
     pub fn release(
         &mut self,
         _alloc: Global,
-        _task: OsalId,
-        _now: Moment,
+        task: OsalId,
+        now: Moment,
         id: OsalId,
         room: &mut Room,
     ) -> Result<Ack, OutOfMemory>
-        ensures step { IfOk result (λ ack. (replied ack room.new, self.new) ≡ release_step self.old id) }
+        ensures step { IfOk result (λ ack. (replied ack room.new, self.new) ≡ done self.old task now (released id)) }
         ensures memory { IsOk result }
     {
         room.clear();

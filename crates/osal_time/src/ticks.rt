@@ -1,14 +1,19 @@
 //! How timebases are made and removed, and how they run.
 ghost use Rattle.std.specs.Prelude.{◌≡◌, ◌<◌, ◌≤◌, ◌+◌, ◌-◌, ◌^◌, ◌++◌, [], length, IsOk, IfOk};
 ghost use Rattle.osal_base.specs.Reply.{replied};
-ghost use Rattle.osal_time.specs.Timebase.{sum_limit, timer_limit};
+ghost use Rattle.osal_time.specs.Timebase.{sum_limit};
+ghost use Rattle.osal_call.specs.Firing.{timer_limit};
 ghost use Rattle.osal_idtable.specs.Table.{active_at};
-ghost use Rattle.osal_time.specs.Ticks.{firing_of, firing_bytes, bytes_of, firings, firings_reply, timebase_create_step, timebase_tick_step, timebase_free_run_step, timebase_delete_step, timebase_find_step};
+ghost use Rattle.osal_time.specs.Time.{done};
+ghost use Rattle.osal_time.specs.Ticks.{firing_of, firings, firings_reply, timebase_create, timebase_tick, timebase_free_run, timebase_delete, timebase_find};
+ghost use Rattle.osal_call.specs.Firing.{firing_bytes, bytes_of};
 
 use crate::timebase::SUM_LIMIT;
 use crate::{TimePart, Timebase, Timer};
 use osal_base::{Ack, Bytes, Moment, Name, OsalId, OutOfMemory, Room, Status};
-use osal_idtable::{Objects, status_of_name};
+use osal_call::append_firing;
+use osal_idtable::status_of_name;
+use osal_object::Objects;
 use std::alloc::Global;
 
 impl TimePart {
@@ -21,13 +26,13 @@ impl TimePart {
     pub fn timebase_create(
         &mut self,
         _alloc: Global,
-        _task: OsalId,
-        _now: Moment,
+        task: OsalId,
+        now: Moment,
         name: &Bytes,
         room: &mut Room,
     ) -> Result<Ack, OutOfMemory>
         ensures step { IfOk result (λ ack. (replied ack room.new, self.new)
-            ≡ timebase_create_step self.old name.now.bytes) }
+            ≡ done self.old task now (timebase_create name.now.bytes)) }
         ensures memory { IsOk result }
     {
         room.clear();
@@ -51,14 +56,14 @@ impl TimePart {
     pub fn timebase_tick(
         &mut self,
         _alloc: Global,
-        _task: OsalId,
-        _now: Moment,
+        task: OsalId,
+        now: Moment,
         id: OsalId,
         usecs: u32,
         room: &mut Room,
     ) -> Result<Ack, OutOfMemory>
         ensures step { IfOk result (λ ack. (replied ack room.new, self.new)
-            ≡ timebase_tick_step self.old id usecs) }
+            ≡ done self.old task now (timebase_tick self.old id usecs)) }
         ensures memory { IsOk result }
     {
         room.clear();
@@ -84,13 +89,13 @@ impl TimePart {
     pub fn timebase_free_run(
         &mut self,
         _alloc: Global,
-        _task: OsalId,
-        _now: Moment,
+        task: OsalId,
+        now: Moment,
         id: OsalId,
         room: &mut Room,
     ) -> Result<Ack, OutOfMemory>
         ensures step { IfOk result (λ ack. (replied ack room.new, self.new)
-            ≡ timebase_free_run_step self.old id) }
+            ≡ done self.old task now (timebase_free_run id)) }
         ensures memory { IsOk result }
     {
         room.clear();
@@ -107,13 +112,13 @@ impl TimePart {
     pub fn timebase_delete(
         &mut self,
         _alloc: Global,
-        _task: OsalId,
-        _now: Moment,
+        task: OsalId,
+        now: Moment,
         id: OsalId,
         room: &mut Room,
     ) -> Result<Ack, OutOfMemory>
         ensures step { IfOk result (λ ack. (replied ack room.new, self.new)
-            ≡ timebase_delete_step self.old id) }
+            ≡ done self.old task now (timebase_delete id)) }
         ensures memory { IsOk result }
     {
         room.clear();
@@ -134,13 +139,13 @@ impl TimePart {
     pub fn timebase_find(
         &mut self,
         _alloc: Global,
-        _task: OsalId,
-        _now: Moment,
+        task: OsalId,
+        now: Moment,
         name: &Bytes,
         room: &mut Room,
     ) -> Result<Ack, OutOfMemory>
         ensures step { IfOk result (λ ack. (replied ack room.new, self.new)
-            ≡ timebase_find_step self.old name.now.bytes) }
+            ≡ done self.old task now (timebase_find name.now.bytes)) }
         ensures memory { IsOk result }
     {
         room.clear();
@@ -184,14 +189,4 @@ fn fire_timer(timers: &Objects<Timer, ()>, id: OsalId, from: u64, to: u64, room:
     }
     append_firing(room, id, (expiries - 1) as u32, timer.handler);
     1
-}
-
-// A firing behind the bytes that are there.
-fn append_firing(room: &mut Room, timer: OsalId, backlog: u32, handler: u32)
-    requires { length room.old + 12 ≤ 1024 }
-    ensures { room.new ≡ room.old ++ firing_bytes (record { timer = timer; backlog = backlog; handler = handler }) }
-{
-    room.append(&timer.raw().to_be_bytes());
-    room.append(&backlog.to_be_bytes());
-    room.append(&handler.to_be_bytes());
 }

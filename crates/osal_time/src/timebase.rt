@@ -1,13 +1,11 @@
 //! One timebase, and the timers that are attached to it.
 ghost use Rattle.std.specs.Prelude.{◌≡◌, ◌≤◌, ◌<◌, ◌+◌, length};
-ghost use Rattle.osal_time.specs.Timebase.{new_timebase, with_timer, without_timer, sum_limit, timer_limit};
+ghost use Rattle.osal_time.specs.Timebase.{new_timebase, with_timer, without_timer, sum_limit};
+ghost use Rattle.osal_call.specs.Firing.{timer_limit};
 
 use arrayvec::ArrayVec;
 use osal_base::OsalId;
 use std::marker::Model;
-
-/// The most timers on one timebase.
-pub(crate) const TIMER_LIMIT: usize = 64;
 
 /// The most microseconds to which a timebase runs: 2^62.
 pub(crate) const SUM_LIMIT: u64 = 4_611_686_018_427_387_904;
@@ -39,18 +37,6 @@ impl Timebase {
     {
         Timebase {
             sum: 0,
-            timers: ArrayVec::new(),
-        }
-    }
-
-    /// A timebase that has run so many microseconds, without timers.
-    #[cfg(test)]
-    pub(crate) fn at(sum: u64) -> Timebase
-        requires { sum ≤ sum_limit }
-        ensures { result ≡ record new_timebase { sum = sum } }
-    {
-        Timebase {
-            sum,
             timers: ArrayVec::new(),
         }
     }

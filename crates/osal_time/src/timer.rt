@@ -59,7 +59,7 @@ pub struct Timer {
 impl Timer {
     /// How many expiries lie above one sum of the timebase and not above another.
     #[tactic(auto, using(crate::proofs::Counting::few_between))]
-    pub(crate) fn expiries_between(&self, from: u64, to: u64) -> u64
+    pub fn expiries_between(&self, from: u64, to: u64) -> u64
         requires from { from ≤ sum_limit }
         requires to { to ≤ sum_limit }
         ensures value { result ≡ expiries_between self.now.setting from to }

@@ -1,11 +1,12 @@
 //! How timers are added to a timebase, set and removed.
 ghost use Rattle.std.specs.Prelude.{◌≡◌, IsOk, IfOk};
 ghost use Rattle.osal_base.specs.Reply.{replied};
-ghost use Rattle.osal_time.specs.Timers.{timer_add_step, timer_set_step, timer_delete_step, timer_find_step, timer_info_step, setting_number};
+ghost use Rattle.osal_time.specs.Time.{done};
+ghost use Rattle.osal_time.specs.Timers.{timer_add, timer_set, timer_delete, timer_find, timer_info, setting_number};
 
-use crate::timebase::TIMER_LIMIT;
 use crate::{Setting, TimePart, Timer};
 use osal_base::{Ack, Answer, Bytes, Moment, Name, OsalId, OutOfMemory, Room, Status};
+use osal_call::TIMER_LIMIT;
 use osal_idtable::{status_of_name, status_of_reserve};
 use std::alloc::Global;
 
@@ -21,15 +22,15 @@ impl TimePart {
     pub fn timer_add(
         &mut self,
         _alloc: Global,
-        _task: OsalId,
-        _now: Moment,
+        task: OsalId,
+        now: Moment,
         name: &Bytes,
         timebase: OsalId,
         handler: u32,
         room: &mut Room,
     ) -> Result<Ack, OutOfMemory>
         ensures step { IfOk result (λ ack. (replied ack room.new, self.new)
-            ≡ timer_add_step self.old name.now.bytes timebase handler) }
+            ≡ done self.old task now (timer_add self.old name.now.bytes timebase handler)) }
         ensures memory { IsOk result }
     {
         room.clear();
@@ -67,15 +68,15 @@ impl TimePart {
     pub fn timer_set(
         &mut self,
         _alloc: Global,
-        _task: OsalId,
-        _now: Moment,
+        task: OsalId,
+        now: Moment,
         id: OsalId,
         start: u32,
         interval: u32,
         room: &mut Room,
     ) -> Result<Ack, OutOfMemory>
         ensures step { IfOk result (λ ack. (replied ack room.new, self.new)
-            ≡ timer_set_step self.old id start interval) }
+            ≡ done self.old task now (timer_set self.old id start interval)) }
         ensures memory { IsOk result }
     {
         room.clear();
@@ -107,13 +108,13 @@ impl TimePart {
     pub fn timer_delete(
         &mut self,
         _alloc: Global,
-        _task: OsalId,
-        _now: Moment,
+        task: OsalId,
+        now: Moment,
         id: OsalId,
         room: &mut Room,
     ) -> Result<Ack, OutOfMemory>
         ensures step { IfOk result (λ ack. (replied ack room.new, self.new)
-            ≡ timer_delete_step self.old id) }
+            ≡ done self.old task now (timer_delete self.old id)) }
         ensures memory { IsOk result }
     {
         room.clear();
@@ -137,13 +138,13 @@ impl TimePart {
     pub fn timer_find(
         &mut self,
         _alloc: Global,
-        _task: OsalId,
-        _now: Moment,
+        task: OsalId,
+        now: Moment,
         name: &Bytes,
         room: &mut Room,
     ) -> Result<Ack, OutOfMemory>
         ensures step { IfOk result (λ ack. (replied ack room.new, self.new)
-            ≡ timer_find_step self.old name.now.bytes) }
+            ≡ done self.old task now (timer_find name.now.bytes)) }
         ensures memory { IsOk result }
     {
         room.clear();
@@ -157,13 +158,13 @@ impl TimePart {
     pub fn timer_info(
         &mut self,
         _alloc: Global,
-        _task: OsalId,
-        _now: Moment,
+        task: OsalId,
+        now: Moment,
         id: OsalId,
         room: &mut Room,
     ) -> Result<Ack, OutOfMemory>
         ensures step { IfOk result (λ ack. (replied ack room.new, self.new)
-            ≡ timer_info_step self.old id) }
+            ≡ done self.old task now (timer_info id)) }
         ensures memory { IsOk result }
     {
         room.clear();

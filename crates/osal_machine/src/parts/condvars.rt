@@ -1,13 +1,14 @@
 //! The condition variable part of the machine.
 ghost use Rattle.std.specs.Prelude.{◌≡◌, false, IsTrue, IsOk, IfOk, OnErr};
 ghost use Rattle.osal_base.specs.Reply.{replied, success};
-ghost use Rattle.osal_machine.specs.Call.{takes_memory};
+ghost use Rattle.osal_call.specs.Call.{takes_memory};
 ghost use Rattle.osal_machine.specs.Parts.{Condvars};
 ghost use Rattle.osal_machine.specs.Views.{Alone, is_own, view_step, is_ready_in, is_active_at, goes_at};
-ghost use Rattle.osal_machine.specs.declared.call.Call.TheVariants.{WaitEnd};
+ghost use Rattle.osal_call.specs.declared.call.Call.TheVariants.{WaitEnd};
 
-use crate::{Call, Part};
+use crate::Part;
 use osal_base::{Ack, Moment, OsalId, OutOfMemory, Room};
+use osal_call::Call;
 use osal_condvar::CondvarPart;
 use std::alloc::Global;
 

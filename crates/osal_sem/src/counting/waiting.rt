@@ -1,7 +1,7 @@
 //! How the takes of counting semaphores wait and end.
 ghost use Rattle.std.specs.Prelude.{◌≡◌, IsOk, IfOk};
 ghost use Rattle.osal_base.specs.Reply.{replied};
-ghost use Rattle.osal_idtable.specs.Deadlines.{deadlines_in, least};
+ghost use Rattle.osal_object.specs.Deadlines.{deadlines_in, least};
 ghost use Rattle.osal_sem.specs.Counting.{count_sem_at, value_of, wait_end_step, wait_abandon_step, ready};
 
 use crate::{CountSem, CountSemPart};

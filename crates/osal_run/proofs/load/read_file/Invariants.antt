@@ -1,5 +1,5 @@
 use Rattle.std.proofs.Common.{◌≤◌, ◌-◌, length}
-use Rattle.osal_base.specs.Causes.{WhereTold}
+use Rattle.osal_outside.specs.Causes.{WhereTold}
 use Rattle.osal_run.specs.Loading.{HasRead}
 use Rattle.osal_run.proofs.load.read_file.Given as goal
 

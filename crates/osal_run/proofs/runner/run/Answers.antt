@@ -1,5 +1,5 @@
 use Rattle.std.proofs.Common.{map, string_bytes, sym}
-use Rattle.osal_base.specs.Causes.{Rose}
+use Rattle.osal_outside.specs.Causes.{Rose}
 use Rattle.osal_run.specs.Checks.{check_of}
 use Rattle.osal_run.proofs.Complete.{completes}
 use Rattle.osal_run.proofs.runner.run.Goals as goal

@@ -1,6 +1,6 @@
 use Rattle.std.proofs.Common.{◌≡◌, ◌∙◌, ap}
 use Rattle.osal_line.specs.declared.kind.BodyKind.TheVariants as kind
-use Rattle.osal_line.specs.Saturated.{saturated}
+use Rattle.osal_price.specs.Saturated.{saturated}
 use Rattle.osal_script.specs.Cost.{first_cost, level_costs, no_prices, handler_cost}
 use Rattle.osal_script.proofs.Dearest.{free_prices}
 use Rattle.osal_script.proofs.cost.handler_cost.Goals as goal

@@ -1,5 +1,5 @@
 use Rattle.std.proofs.Common.{◌≡◌, ◌+◌, ◌-◌, ◌∙◌, ℕ, Some, length, drop, sym, ap, map, arith}
-use Rattle.osal_line.specs.Saturated.{saturated, prices_of}
+use Rattle.osal_price.specs.Saturated.{saturated, prices_of}
 use Rattle.osal_script.specs.declared.item.Item.TheVariants as item
 use Rattle.osal_script.specs.Saturated.{repeated_saturated}
 use Rattle.osal_script.specs.Cost.{level_costs}

@@ -1,5 +1,5 @@
 use Rattle.std.proofs.Common.{◌≡◌, ◌≤◌, length, drop, map}
-use Rattle.osal_line.specs.Saturated.{saturated, prices_of}
+use Rattle.osal_price.specs.Saturated.{saturated, prices_of}
 use Rattle.osal_script.specs.Cost.{level_costs}
 use Rattle.osal_script.proofs.cost.items_cost.Given as goal
 

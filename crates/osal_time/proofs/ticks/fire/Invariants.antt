@@ -1,5 +1,6 @@
 use Rattle.std.proofs.Common.{◌≡◌, ◌≤◌, ◌+◌, ◌*◌, ◌++◌, length, drop}
-use Rattle.osal_time.specs.Ticks.{firings, bytes_of}
+use Rattle.osal_time.specs.Ticks.{firings}
+use Rattle.osal_call.specs.Firing.{bytes_of}
 use Rattle.osal_time.proofs.ticks.fire.Given as goal
 
 -- the firings of the timers passed are in the room and counted, and those of the others make up the rest

@@ -1,9 +1,9 @@
 use Rattle.std.proofs.Common.{ap, ◌∙◌, rules, is_some}
 use Rattle.osal_base.specs.Reply.{Replied}
-use Rattle.osal_idtable.specs.Moves.{Begin}
-use Rattle.osal_idtable.specs.Objects.{ObjectsState}
+use Rattle.osal_object.specs.Moves.{Begin}
+use Rattle.osal_object.specs.Objects.{ObjectsState}
 use Rattle.osal_idtable.specs.Table.{active_at}
-use Rattle.osal_idtable.proofs.Activity.{change_alike}
+use Rattle.osal_object.proofs.Activity.{change_alike}
 use Rattle.osal_condvar.specs.declared.condvar.Condvar.{Condvar}
 use Rattle.osal_condvar.specs.declared.condvar.CondvarWait.{CondvarWait}
 use Rattle.osal_condvar.proofs.part.CondvarPart.condvar_wait.Goals as goal

@@ -1,5 +1,5 @@
 use Rattle.std.proofs.Common.{◌∙◌, refl, ap, subst}
-use Rattle.osal_machine.specs.declared.call.Call.TheVariants.{TaskCreate}
+use Rattle.osal_call.specs.declared.call.Call.TheVariants.{TaskCreate}
 use Rattle.osal_machine.specs.Step.{MachineState}
 use Rattle.osal_runs.specs.Segments.{begun}
 use Rattle.osal_exec.specs.Running.{with_begun}

@@ -1,6 +1,6 @@
 use Rattle.std.proofs.Common.{◌≡◌, Some, sym, subst}
 use Rattle.std.proofs.lemmas.Result.{on_ok_weaker}
-use Rattle.osal_machine.specs.Call.{said}
+use Rattle.osal_call.specs.Call.{said}
 use Rattle.osal_script.specs.declared.cursor.Step.TheVariants.{Make}
 use Rattle.osal_script.specs.Cursor.{next_call, IsStep}
 use Rattle.osal_exec.specs.Driving.{drive_of}

@@ -1,5 +1,5 @@
 use Rattle.std.proofs.Common.{ap, ◌∙◌}
-use Rattle.osal_idtable.specs.Deadlines.{deadlines_in, least}
+use Rattle.osal_object.specs.Deadlines.{deadlines_in, least}
 use Rattle.osal_machine.specs.Step.{MachineState}
 use Rattle.osal_machine.proofs.Deadlines.{next_of_parts}
 use Rattle.osal_machine.proofs.whole.Whole.next_deadline.Goals as goal

@@ -1,5 +1,5 @@
 use Rattle.std.proofs.Common.{◌≡◌, ◌+◌, ◌-◌, ◌∙◌, ℕ, ap, sym, subst, length-set, set, arith}
-use Rattle.osal_line.specs.Saturated.{saturated, prices_of}
+use Rattle.osal_price.specs.Saturated.{saturated, prices_of}
 use Rattle.osal_script.specs.Cost.{first_cost, level_costs, tick_cost}
 use Rattle.osal_script.proofs.Bodies.{HaveCosts, one_cost}
 use Rattle.osal_script.proofs.body.App.cost.Goals as goal

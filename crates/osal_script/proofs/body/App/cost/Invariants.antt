@@ -1,5 +1,5 @@
 use Rattle.std.proofs.Common.{◌≡◌, ◌≤◌, length}
-use Rattle.osal_line.specs.Saturated.{saturated}
+use Rattle.osal_price.specs.Saturated.{saturated}
 use Rattle.osal_script.specs.Cost.{tick_cost}
 use Rattle.osal_script.proofs.Bodies.{HaveCosts}
 use Rattle.osal_script.proofs.body.App.cost.Given as goal

@@ -1,5 +1,5 @@
 use Rattle.std.proofs.Common.{◌≡◌, ◌≤◌, length, drop}
-use Rattle.osal_line.specs.Saturated.{saturated}
+use Rattle.osal_price.specs.Saturated.{saturated}
 use Rattle.osal_script.specs.Cost.{greatest_handler}
 use Rattle.osal_script.proofs.body.App.greatest_handler.Given as goal
 

@@ -1,0 +1,350 @@
+//! The calls of the machine, and the entries that they make.
+ghost use Rattle.std.specs.Prelude.{◌≡◌};
+ghost use Rattle.osal_call.specs.Call as of_call;
+
+use osal_base::{Bytes, Moment, OsalId, Reply, Timeout};
+
+/// A call with its arguments.
+#[derive(Drop)]
+pub enum Call {
+    /// `OS_TaskCreate`.
+    TaskCreate {
+        name: Bytes,
+        body: u32,
+        stack: u32,
+        priority: u32,
+    },
+    /// `OS_TaskExit`.
+    TaskExit,
+    /// `OS_TaskDelete`.
+    TaskDelete {
+        id: OsalId,
+    },
+    /// `OS_TaskSetPriority`.
+    TaskSetPriority {
+        id: OsalId,
+        priority: u32,
+    },
+    /// `OS_TaskGetIdByName`.
+    TaskFind {
+        name: Bytes,
+    },
+    /// `OS_TaskGetInfo`.
+    TaskInfo {
+        id: OsalId,
+    },
+    /// `OS_TaskDelay`.
+    TaskDelay {
+        ms: u32,
+    },
+    /// The place at which a task learns whether it goes on.
+    Checkpoint,
+    /// `OS_QueueCreate`.
+    QueueCreate {
+        name: Bytes,
+        depth: u32,
+        size: u32,
+    },
+    /// `OS_QueueDelete`.
+    QueueDelete {
+        id: OsalId,
+    },
+    /// `OS_QueuePut`.
+    QueuePut {
+        id: OsalId,
+        payload: Bytes,
+    },
+    /// `OS_QueueGet`, with room for `n` bytes.
+    QueueGet {
+        id: OsalId,
+        n: u32,
+        wait: Timeout,
+    },
+    /// `OS_QueueGetIdByName`.
+    QueueFind {
+        name: Bytes,
+    },
+    /// `OS_QueueGetInfo`.
+    QueueInfo {
+        id: OsalId,
+    },
+    /// `OS_CountSemCreate`.
+    CountSemCreate {
+        name: Bytes,
+        value: u32,
+    },
+    /// `OS_CountSemGive`.
+    CountSemGive {
+        id: OsalId,
+    },
+    /// `OS_CountSemTake` and `OS_CountSemTimedWait`.
+    CountSemTake {
+        id: OsalId,
+        wait: Timeout,
+    },
+    /// `OS_CountSemDelete`.
+    CountSemDelete {
+        id: OsalId,
+    },
+    /// `OS_CountSemGetIdByName`.
+    CountSemFind {
+        name: Bytes,
+    },
+    /// `OS_CountSemGetInfo`.
+    CountSemInfo {
+        id: OsalId,
+    },
+    /// `OS_BinSemCreate`.
+    BinSemCreate {
+        name: Bytes,
+        value: u32,
+    },
+    /// `OS_BinSemGive`.
+    BinSemGive {
+        id: OsalId,
+    },
+    /// `OS_BinSemFlush`.
+    BinSemFlush {
+        id: OsalId,
+    },
+    /// `OS_BinSemTake` and `OS_BinSemTimedWait`.
+    BinSemTake {
+        id: OsalId,
+        wait: Timeout,
+    },
+    /// `OS_BinSemDelete`.
+    BinSemDelete {
+        id: OsalId,
+    },
+    /// `OS_BinSemGetIdByName`.
+    BinSemFind {
+        name: Bytes,
+    },
+    /// `OS_BinSemGetInfo`.
+    BinSemInfo {
+        id: OsalId,
+    },
+    /// `OS_MutSemCreate`.
+    MutSemCreate {
+        name: Bytes,
+    },
+    /// `OS_MutSemTake`.
+    MutSemTake {
+        id: OsalId,
+    },
+    /// `OS_MutSemGive`.
+    MutSemGive {
+        id: OsalId,
+    },
+    /// `OS_MutSemDelete`.
+    MutSemDelete {
+        id: OsalId,
+    },
+    /// `OS_MutSemGetIdByName`.
+    MutSemFind {
+        name: Bytes,
+    },
+    /// `OS_MutSemGetInfo`.
+    MutSemInfo {
+        id: OsalId,
+    },
+    /// `OS_CondVarCreate`.
+    CondvarCreate {
+        name: Bytes,
+    },
+    /// `OS_CondVarLock`.
+    CondvarLock {
+        id: OsalId,
+    },
+    /// `OS_CondVarUnlock`.
+    CondvarUnlock {
+        id: OsalId,
+    },
+    /// `OS_CondVarSignal`.
+    CondvarSignal {
+        id: OsalId,
+    },
+    /// `OS_CondVarBroadcast`.
+    CondvarBroadcast {
+        id: OsalId,
+    },
+    /// `OS_CondVarWait` and `OS_CondVarTimedWait`.
+    CondvarWait {
+        id: OsalId,
+        wait: Timeout,
+    },
+    /// `OS_CondVarDelete`.
+    CondvarDelete {
+        id: OsalId,
+    },
+    /// `OS_CondVarGetIdByName`.
+    CondvarFind {
+        name: Bytes,
+    },
+    /// `OS_TimeBaseCreate`.
+    TimebaseCreate {
+        name: Bytes,
+    },
+    /// The external tick of a timebase.
+    TimebaseTick {
+        id: OsalId,
+        usecs: u32,
+    },
+    /// `OS_TimeBaseGetFreeRun`.
+    TimebaseFreeRun {
+        id: OsalId,
+    },
+    /// `OS_TimeBaseDelete`.
+    TimebaseDelete {
+        id: OsalId,
+    },
+    /// `OS_TimeBaseGetIdByName`.
+    TimebaseFind {
+        name: Bytes,
+    },
+    /// `OS_TimerAdd`, with the number of the handler that its firings tell.
+    TimerAdd {
+        name: Bytes,
+        timebase: OsalId,
+        handler: u32,
+    },
+    /// `OS_TimerSet`, in microseconds.
+    TimerSet {
+        id: OsalId,
+        start: u32,
+        interval: u32,
+    },
+    /// `OS_TimerDelete`.
+    TimerDelete {
+        id: OsalId,
+    },
+    /// `OS_TimerGetIdByName`.
+    TimerFind {
+        name: Bytes,
+    },
+    /// `OS_TimerGetInfo`.
+    TimerInfo {
+        id: OsalId,
+    },
+    /// Virtual time goes on to a later moment, in milliseconds.
+    Advance {
+        to: u64,
+    },
+    /// Holds an object, so that it is not removed.
+    Hold {
+        id: OsalId,
+    },
+    /// Gives a hold back.
+    Release {
+        id: OsalId,
+    },
+    /// Ends the open wait of the task in the part of that number.
+    WaitEnd {
+        part: u32,
+    },
+    /// Gives the open wait of the task in the part of that number up.
+    WaitAbandon {
+        part: u32,
+    },
+}
+
+/// One call of one task, with the moment at which it was made and its reply.
+#[derive(Drop)]
+pub struct Entry {
+    /// 0 for the machine's own calls, else 1 plus the slot of the task.
+    pub caller: u32,
+    pub task: OsalId,
+    pub now: Moment,
+    pub call: Call,
+    pub reply: Reply,
+}
+
+/// The number of the part that has the objects of a type; 0 where no part has any.
+fn part_of_type(kind: u32) -> u32
+    ensures { result ≡ of_call.part_of_type kind }
+{
+    match kind {
+        2 => 1,
+        3 => 2,
+        4 => 3,
+        5 => 4,
+        13 => 5,
+        8 | 9 => 6,
+        6 | 7 | 11 => 7,
+        12 => 8,
+        _ => 0,
+    }
+}
+
+/// The number of the part that has an identifier's object.
+pub fn part_of_id(id: OsalId) -> u32
+    ensures { result ≡ of_call.part_of_id id }
+{
+    part_of_type(id.raw() / 65536)
+}
+
+/// The number of the part whose call it is: 0 for tasks, 1 for queues, 2 and 3 for counting and binary semaphores,
+/// 4 for mutexes, 5 for condition variables, 6 for time.
+///
+/// A hold and a release go to the part of the identifier's type, the end of a wait to the part of its number.
+/// What has no part goes to part 0.
+pub fn part_of(call: &Call) -> u32
+    ensures { result ≡ of_call.part_of call.now }
+{
+    match call {
+        Call::TaskCreate { .. }
+        | Call::TaskExit
+        | Call::TaskDelete { .. }
+        | Call::TaskSetPriority { .. }
+        | Call::TaskFind { .. }
+        | Call::TaskInfo { .. }
+        | Call::TaskDelay { .. }
+        | Call::Checkpoint => 0,
+        Call::QueueCreate { .. }
+        | Call::QueueDelete { .. }
+        | Call::QueuePut { .. }
+        | Call::QueueGet { .. }
+        | Call::QueueFind { .. }
+        | Call::QueueInfo { .. } => 1,
+        Call::CountSemCreate { .. }
+        | Call::CountSemGive { .. }
+        | Call::CountSemTake { .. }
+        | Call::CountSemDelete { .. }
+        | Call::CountSemFind { .. }
+        | Call::CountSemInfo { .. } => 2,
+        Call::BinSemCreate { .. }
+        | Call::BinSemGive { .. }
+        | Call::BinSemFlush { .. }
+        | Call::BinSemTake { .. }
+        | Call::BinSemDelete { .. }
+        | Call::BinSemFind { .. }
+        | Call::BinSemInfo { .. } => 3,
+        Call::MutSemCreate { .. }
+        | Call::MutSemTake { .. }
+        | Call::MutSemGive { .. }
+        | Call::MutSemDelete { .. }
+        | Call::MutSemFind { .. }
+        | Call::MutSemInfo { .. } => 4,
+        Call::CondvarCreate { .. }
+        | Call::CondvarLock { .. }
+        | Call::CondvarUnlock { .. }
+        | Call::CondvarSignal { .. }
+        | Call::CondvarBroadcast { .. }
+        | Call::CondvarWait { .. }
+        | Call::CondvarDelete { .. }
+        | Call::CondvarFind { .. } => 5,
+        Call::TimebaseCreate { .. }
+        | Call::TimebaseTick { .. }
+        | Call::TimebaseFreeRun { .. }
+        | Call::TimebaseDelete { .. }
+        | Call::TimebaseFind { .. }
+        | Call::TimerAdd { .. }
+        | Call::TimerSet { .. }
+        | Call::TimerDelete { .. }
+        | Call::TimerFind { .. }
+        | Call::TimerInfo { .. }
+        | Call::Advance { .. } => 6,
+        Call::Hold { id } | Call::Release { id } => part_of_id(*id),
+        Call::WaitEnd { part } | Call::WaitAbandon { part } => { if 8 < *part { 0 } else { *part } }
+    }
+}

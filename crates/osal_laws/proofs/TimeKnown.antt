@@ -1,0 +1,197 @@
+-- Each call of the time part is known by its outcome over the timebases or over the timers, and what it writes across.
+use Rattle.std.proofs.Common.{◌≡◌, ◌==◌, ◌&&◌, ◌+◌, ℕ, List, Bool, true, false, cond, length, nat_lt, Option, Some, None, is_some, refl, sym, ap, subst, ◌∙◌}
+use Rattle.std.proofs.lemmas.Bool.{cond-false, true≢false}
+use Rattle.osal_base.specs.declared.status.Status.TheVariants as status
+use Rattle.osal_base.specs.declared.time.Moment.{Moment}
+use Rattle.osal_base.specs.declared.time.Timeout.TheVariants as timeout
+use Rattle.osal_base.specs.Name.{name_fault}
+use Rattle.osal_base.specs.Reply.{Replied, refusal, is_waits, is_refusal}
+use Rattle.osal_idtable.specs.Table.{Active, active_at}
+use Rattle.osal_idtable.specs.Faults.{unless}
+use Rattle.osal_object.specs.Objects.{ObjectsState}
+use Rattle.osal_object.specs.Outcomes.{Write, Outcome, Named, Hold, Release, looks, carried_out}
+use Rattle.osal_object.specs.Across.{across}
+use Rattle.osal_object.proofs.Moves.{IsMove, either, stays}
+use Rattle.osal_object.proofs.Refusals.{Leaves, fails, same, within}
+use Rattle.osal_object.proofs.WaitSteps.{goes_on}
+use Rattle.osal_object.proofs.Carried.{Fits, outcome_moves, outcome_keeps, outcome_waits, gone_refused}
+use Rattle.osal_object.proofs.Across.{across_moves, across_keeps}
+use Rattle.osal_time.specs.Timebase.{Timebase, sum_limit}
+use Rattle.osal_call.specs.Firing.{timer_limit}
+use Rattle.osal_time.specs.declared.timer.Timer.{Timer}
+use Rattle.osal_time.specs.Time.{TimeState, TimeCall, OnTimebases, OnTimers, OnBoth, Advance, timebase_at, timer_at, is_timer, is_active, done}
+use Rattle.osal_time.specs.Timers.{made_for}
+use Rattle.osal_call.specs.declared.call.Call.{Call}
+use Rattle.osal_call.specs.declared.call.Call.TheVariants as call
+use Rattle.osal_call.specs.Signature.{signature, is_refused_before}
+use Rattle.osal_call.specs.Signature as what
+use Rattle.osal_machine.specs.Parts.{time_call, time_step}
+use Rattle.osal_laws.proofs.Known.{none_of}
+
+module _ (time : TimeState) (task : ℕ) (now : Moment) where
+  -- the outcome of a call does not wait
+  abbrev FitsCall : TimeCall → Type 0
+  FitsCall (OnTimebases outcome) = Fits time.timebases timeout.Check outcome
+  FitsCall (OnTimers outcome) = Fits time.timers timeout.Check outcome
+  FitsCall (OnBoth outcome writes) = Fits time.timers timeout.Check outcome
+  FitsCall (Advance to) = Unit {0}
+
+  -- a timer that is made for a timebase
+  made_fits : (name : List ℕ) (id handler : ℕ) (found : Option (Active Timebase)) → Fits time.timers timeout.Check (made_for name id handler found)
+  made_fits name id handler None = tt
+  made_fits name id handler (Some active) =
+      either (Fits time.timers timeout.Check) (nat_lt (length active.object.timers) timer_limit) _ _ tt tt
+
+  fits : (made : Call) → FitsCall (time_call time made)
+  fits (call.TimebaseTick id usecs) =
+      either (Fits time.timebases timeout.Check) (usecs == 0) _ _ tt
+      (λ active at. either (Fits time.timebases timeout.Check) (nat_lt sum_limit (active.object.sum + usecs)) _ _ tt tt)
+  fits (call.TimebaseFreeRun id) = λ active at. tt
+  fits (call.TimebaseDelete id) = λ active at.
+      either (Fits time.timebases timeout.Check) (nat_lt 0 (length active.object.timers)) _ _ tt tt
+  fits (call.TimerAdd name timebase handler) = made_fits name.bytes timebase handler (timebase_at time timebase)
+  fits (call.TimerSet id start interval) =
+      either (Fits time.timers timeout.Check) ((start == 0) && (interval == 0)) _ _ tt (λ active at. tt)
+  fits (call.TimerInfo id) = λ active at. tt
+  fits (call.Hold id) = either FitsCall (is_timer id) _ _ tt tt
+  fits (call.Release id) = either FitsCall (is_timer id) _ _ tt tt
+  fits _ = tt
+
+  -- a step of the part makes one move of the timebases and one of the timers
+  abbrev Moves : Replied × TimeState → Type 0
+  Moves stepped = IsMove time.timebases stepped.1.timebases × IsMove time.timers stepped.1.timers
+
+  done_moves : (made : TimeCall) → FitsCall made → Moves (done time task now made)
+  done_moves (OnTimebases outcome) fits =
+      (outcome_moves time.timebases task now timeout.Check outcome fits, stays time.timers)
+  done_moves (OnTimers outcome) fits =
+      (stays time.timebases, outcome_moves time.timers task now timeout.Check outcome fits)
+  done_moves (OnBoth outcome writes) fits = (
+    across_moves (carried_out time.timers task now outcome).0 writes time.timebases,
+    outcome_moves time.timers task now timeout.Check outcome fits,
+  )
+  done_moves (Advance to) fits =
+      either Moves (nat_lt time.moment.ms to) _ _ (stays time.timebases, stays time.timers) (stays time.timebases, stays time.timers)
+
+  -- a call of the part makes one move of each
+  pub time_moves : (made : Call) → Moves (time_step time task now made)
+  time_moves made = done_moves (time_call time made) (fits made)
+
+  -- a refused step leaves the part
+  abbrev Keeps : Replied × TimeState → Type 0
+  Keeps stepped = Leaves is_refusal time stepped
+
+  both_keep : (stepped : Replied × ObjectsState Timer (Unit {0})) (timebases : ObjectsState Timebase (Unit {0})) → Leaves is_refusal time.timers stepped → (is_refusal stepped.0.answer ≡ true → timebases ≡ time.timebases) → Keeps (stepped.0, record time { timebases = timebases; timers = stepped.1 })
+  both_keep stepped timebases leaves others = record {
+    left = λ refused.
+        ap (λ o. record time { timebases = o; timers = stepped.1 }) (others refused)
+        ∙ ap (λ o. record time { timers = o }) (leaves.left refused);
+  }
+
+  done_keeps : (made : TimeCall) → Keeps (done time task now made)
+  done_keeps (OnTimebases outcome) =
+      within (λ o. record time { timebases = o }) (outcome_keeps time.timebases task now outcome)
+  done_keeps (OnTimers outcome) =
+      within (λ o. record time { timers = o }) (outcome_keeps time.timers task now outcome)
+  done_keeps (OnBoth outcome writes) =
+      let stepped = carried_out time.timers task now outcome in
+      both_keep stepped (across stepped.0 writes time.timebases) (outcome_keeps time.timers task now outcome)
+      (across_keeps stepped.0 writes time.timebases)
+  done_keeps (Advance to) = either Keeps (nat_lt time.moment.ms to) _ _ (fails refl) same
+
+  -- a refused call of the part leaves it
+  pub time_keeps : (made : Call) → Keeps (time_step time task now made)
+  time_keeps made = done_keeps (time_call time made)
+
+  -- a step of the part does not answer that it waits
+  abbrev Answers : Replied × TimeState → Type 0
+  Answers stepped = is_waits stepped.0.answer ≡ false
+
+  done_answers : (made : TimeCall) → FitsCall made → Answers (done time task now made)
+  done_answers (OnTimebases outcome) fits =
+      (goes_on refl (outcome_waits time.timebases task now timeout.Check outcome fits)).0
+  done_answers (OnTimers outcome) fits = (goes_on refl (outcome_waits time.timers task now timeout.Check outcome fits)).0
+  done_answers (OnBoth outcome writes) fits =
+      (goes_on refl (outcome_waits time.timers task now timeout.Check outcome fits)).0
+  done_answers (Advance to) fits = either Answers (nat_lt time.moment.ms to) _ _ refl refl
+
+  -- a call of the part does not answer that it waits
+  pub time_answers : (made : Call) → Answers (time_step time task now made)
+  time_answers made = done_answers (time_call time made) (fits made)
+
+  -- the identifier of a timebase, and that of a timer, that a call looks at
+  abbrev looks_for_timebase : TimeCall → Option ℕ
+  looks_for_timebase (OnTimebases outcome) = looks outcome
+  looks_for_timebase other = None
+
+  abbrev looks_for_timer : TimeCall → Option ℕ
+  looks_for_timer (OnTimers outcome) = looks outcome
+  looks_for_timer (OnBoth outcome writes) = looks outcome
+  looks_for_timer other = None
+
+  -- a call is refused, since its identifier is not active
+  abbrev IsStale : Replied × TimeState → Type 0
+  IsStale stepped = stepped.0 ≡ refusal status.ErrInvalidId
+
+  timebase_gone : (made : TimeCall) (id : ℕ) → looks_for_timebase made ≡ Some id → is_some (timebase_at time id) ≡ false → IsStale (done time task now made)
+  timebase_gone (OnTimebases outcome) id on gone =
+      gone_refused time.timebases task now outcome id on (none_of (timebase_at time id) gone)
+  timebase_gone _ id on gone = cc
+
+  timer_gone : (made : TimeCall) (id : ℕ) → looks_for_timer made ≡ Some id → is_some (timer_at time id) ≡ false → IsStale (done time task now made)
+  timer_gone (OnTimers outcome) id on gone =
+      gone_refused time.timers task now outcome id on (none_of (timer_at time id) gone)
+  timer_gone (OnBoth outcome writes) id on gone =
+      gone_refused time.timers task now outcome id on (none_of (timer_at time id) gone)
+  timer_gone _ id on gone = cc
+
+  -- no timer is made for a timebase that is not there
+  none_made : (name : List ℕ) (id handler : ℕ) (found : Option (Active Timebase)) → is_some (name_fault name) ≡ false → is_some found ≡ false → (carried_out time.timers task now (Named name (made_for name id handler found))).0 ≡ refusal status.ErrInvalidId
+  none_made name id handler None may gone =
+      ap (λ f. (unless f time.timers (refusal status.ErrInvalidId, time.timers)).0) (none_of (name_fault name) may)
+  none_made name id handler (Some active) may gone = absurd (true≢false gone)
+
+  -- a call on a timebase that is not there is refused by that, where nothing refuses it before
+  pub timebases_stale : (made : Call) (id : ℕ) → (signature made).subject ≡ what.Object what.Timebases id → is_refused_before made ≡ false → is_some (timebase_at time id) ≡ false → IsStale (time_step time task now made)
+  timebases_stale (call.TimebaseTick other usecs) id is may gone =
+      let same : other ≡ id = cc in
+      timebase_gone (time_call time (call.TimebaseTick other usecs)) id (ap looks (cond-false (usecs == 0) _ _ may) ∙ ap Some same) gone
+  timebases_stale (call.TimebaseFreeRun other) id is may gone =
+      let same : other ≡ id = cc in
+      timebase_gone (time_call time (call.TimebaseFreeRun other)) id (ap Some same) gone
+  timebases_stale (call.TimebaseDelete other) id is may gone =
+      let same : other ≡ id = cc in
+      timebase_gone (time_call time (call.TimebaseDelete other)) id (ap Some same) gone
+  timebases_stale (call.TimerAdd name other handler) id is may gone =
+      let same : id ≡ other = cc in
+      none_made name.bytes other handler (timebase_at time other) may (ap (λ n. is_some (timebase_at time n)) (sym same) ∙ gone)
+  timebases_stale _ id is may gone = absurd (cc)
+
+  -- a call on a timer that is not there
+  pub timers_stale : (made : Call) (id : ℕ) → (signature made).subject ≡ what.Object what.Timers id → is_refused_before made ≡ false → is_some (timer_at time id) ≡ false → IsStale (time_step time task now made)
+  timers_stale (call.TimerSet other start interval) id is may gone =
+      let same : other ≡ id = cc in
+      timer_gone (time_call time (call.TimerSet other start interval)) id (ap looks (cond-false ((start == 0) && (interval == 0)) _ _ may) ∙ ap Some same) gone
+  timers_stale (call.TimerDelete other) id is may gone =
+      let same : other ≡ id = cc in
+      timer_gone (time_call time (call.TimerDelete other)) id (ap Some same) gone
+  timers_stale (call.TimerInfo other) id is may gone =
+      let same : other ≡ id = cc in
+      timer_gone (time_call time (call.TimerInfo other)) id (ap Some same) gone
+  timers_stale _ id is may gone = absurd (cc)
+
+  one_gone : (timer : Bool) (id : ℕ) (of_timers of_timebases : TimeCall) → looks_for_timer of_timers ≡ Some id → looks_for_timebase of_timebases ≡ Some id → cond timer (is_some (timer_at time id)) (is_some (timebase_at time id)) ≡ false → IsStale (done time task now (cond timer of_timers of_timebases))
+  one_gone true id of_timers of_timebases as_timer as_timebase gone = timer_gone of_timers id as_timer gone
+  one_gone false id of_timers of_timebases as_timer as_timebase gone = timebase_gone of_timebases id as_timebase gone
+
+  -- a hold or a release of one that is not there
+  pub either_stale : (made : Call) (id : ℕ) → (signature made).subject ≡ what.Object what.OfType id → is_active time id ≡ false → IsStale (time_step time task now made)
+  either_stale (call.Hold other) id is gone =
+      let same : id ≡ other = cc in
+      subst (λ n. IsStale (time_step time task now (call.Hold n))) same
+      (one_gone (is_timer id) id (OnTimers (Hold id)) (OnTimebases (Hold id)) refl refl gone)
+  either_stale (call.Release other) id is gone =
+      let same : id ≡ other = cc in
+      subst (λ n. IsStale (time_step time task now (call.Release n))) same
+      (one_gone (is_timer id) id (OnTimers (Release id)) (OnTimebases (Release id)) refl refl gone)
+  either_stale _ id is gone = absurd (cc)

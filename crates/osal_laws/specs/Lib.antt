@@ -1,0 +1,4 @@
+pub use Rattle.osal_machine.specs.Step
+pub use Rattle.osal_machine.specs.History
+pub mod Laws
+pub mod QueueLaw

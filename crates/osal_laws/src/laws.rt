@@ -1,0 +1,78 @@
+//! What holds of every history of the machine, as clauses of functions that do nothing.
+ghost use Rattle.osal_laws.specs.QueueLaw.{QueuesKeepTheirOrder};
+ghost use Rattle.osal_laws.specs.Laws.{StaleIdentifiersAreRefused, WrapCountRises, HeldObjectsAreKept, RefusedCallsChangeNothing, EndsThatWaitChangeNothing, EndsOfNoWaitChangeNothing, ObjectsAreCounted, TablesAreWellFormed, CallsChangeTheirPart, PartsReplayAlone, MarkedTasksAreUnheld, DeletedTasksAreGone, TimersAreAttached, TicksFireFew};
+
+/// An entry on an identifier that is not active is refused by that, where nothing refuses it before.
+pub fn stale_identifiers_are_refused()
+    ensures { StaleIdentifiersAreRefused }
+{}
+
+/// Between two entries that make the same identifier active the wrap count of its type rises.
+pub fn wrap_count_rises()
+    ensures { WrapCountRises }
+{}
+
+/// An entry that makes an identifier not active found no holds on it.
+pub fn held_objects_are_kept()
+    ensures { HeldObjectsAreKept }
+{}
+
+/// A refused call changes nothing.
+pub fn refused_calls_change_nothing()
+    ensures { RefusedCallsChangeNothing }
+{}
+
+/// The end of a wait that waits on changes nothing.
+pub fn ends_that_wait_change_nothing()
+    ensures { EndsThatWaitChangeNothing }
+{}
+
+/// The end of a wait in a part where the task has none is refused and changes nothing.
+pub fn ends_of_no_wait_change_nothing()
+    ensures { EndsOfNoWaitChangeNothing }
+{}
+
+/// The holds of an object are those of callers and the open waits that stand on it.
+pub fn objects_are_counted()
+    ensures { ObjectsAreCounted }
+{}
+
+/// The tables of the parts are well formed.
+pub fn tables_are_well_formed()
+    ensures { TablesAreWellFormed }
+{}
+
+/// A call changes its own part alone.
+pub fn calls_change_their_part()
+    ensures { CallsChangeTheirPart }
+{}
+
+/// The replay of a part depends on its own entries alone.
+pub fn parts_replay_alone()
+    ensures { PartsReplayAlone }
+{}
+
+/// A task that is marked for deletion is not held.
+pub fn marked_tasks_are_unheld()
+    ensures { MarkedTasksAreUnheld }
+{}
+
+/// A checkpoint that answers that its task was deleted has removed it.
+pub fn deleted_tasks_are_gone()
+    ensures { DeletedTasksAreGone }
+{}
+
+/// The gets of a queue give the messages that it accepted, in order, each once; the rest is what it holds.
+pub fn queues_keep_their_order()
+    ensures { QueuesKeepTheirOrder }
+{}
+
+/// Each timebase has active timers of its own, each once, and each active timer stands in the list of its timebase.
+pub fn timers_are_attached()
+    ensures { TimersAreAttached }
+{}
+
+/// A tick tells of no more timers, in twelve bytes each, than a timebase may have, nor than there may be.
+pub fn ticks_fire_few()
+    ensures { TicksFireFew }
+{}

@@ -1,0 +1,4 @@
+//! What holds of every history of the machine.
+#![tactic(auto)]
+
+pub mod laws;

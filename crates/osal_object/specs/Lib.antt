@@ -1,0 +1,15 @@
+pub use Rattle.osal_idtable.specs.Table
+pub use Rattle.osal_idtable.specs.Steps
+pub use Rattle.osal_idtable.specs.Faults
+pub mod ObjectLends
+pub mod Code
+pub mod Standing
+pub mod Tests
+pub mod Waits
+pub mod Deadlines
+pub mod Objects
+pub mod Waiting
+pub mod Moves
+pub mod Outcomes
+pub mod Across
+pub mod ObjectLaws

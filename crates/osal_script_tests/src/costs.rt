@@ -1,0 +1,120 @@
+//! What applications cost, and which expectation a line has.
+use osal_reading::parse;
+use osal_script::App;
+use std::alloc::Global;
+use std::process::Abort;
+use std::test::Fail;
+
+/// The application with these lines in its main body, and one more body, which waits three times.
+fn app_of(rt: &impl Abort, alloc: Global, lines: &str) -> Result<App, Fail> {
+    let mut text = Vec::from_slice(alloc, b"osal-app 1\ntask main\n".as_slice())?;
+    text.extend_from_slice(lines.as_bytes())?;
+    text.extend_from_slice(
+        b"\nend\ntask w\nbin_sem_take $s check\nbin_sem_take $s pend\ntask_delay 5 -> -4\nend\n".as_slice(),
+    )?;
+    assert!(rt; text.len() < 1000000);
+    match parse(alloc, text.as_slice()) {
+        Ok(app) => Ok(app),
+        Err(_) => panic!(rt; "{lines}"),
+    }
+}
+
+/// What the application with these lines costs.
+fn cost_of(rt: &impl Abort, alloc: Global, lines: &str) -> Result<u64, Fail> {
+    let app = app_of(rt, alloc, lines)?;
+    Ok(app.cost())
+}
+
+/// The lines of a body, and what the application costs.
+const COSTS: [(&str, u64); 9] = [
+    ("task_create $t \"t\" w 0 1\ntask_delay 0", 26),
+    (
+        "repeat 2\nrepeat 2\nrepeat 2\ntask_create $t \"t\" w 0 1\nend\nend\ntask_delay 0\nend",
+        175,
+    ),
+    (
+        "repeat 100\nrepeat 100\nrepeat 100\ntask_create $t \"t\" w 0 1\nend\nend\ntask_delay 0\nend",
+        21_000_203,
+    ),
+    (
+        "repeat 100000\nrepeat 100000\nrepeat 100000\nrepeat 100000\ntask_exit\nend\nend\nend\nend",
+        u64::MAX,
+    ),
+    (
+        "queue_put $q \"a\"\nqueue_put $q fill 63 0\nqueue_put $q fill 64 0\nqueue_put $q fill 8192 0",
+        140,
+    ),
+    (
+        "queue_get $q 63 check\nqueue_get $q 64 pend\nqueue_get $q 128 1\nqueue_get $q 4294967295 check",
+        67_108_880,
+    ),
+    (
+        "count_sem_take $c check\ncount_sem_take $c pend\ncount_sem_take $c 7\ncount_sem_give $c",
+        14,
+    ),
+    (
+        "mut_sem_take $m\nmut_sem_give $m\ncondvar_lock $v\ncondvar_unlock $v",
+        13,
+    ),
+    (
+        "condvar_wait $v check\ncondvar_wait $v pend\ncondvar_wait $v 1\ncondvar_signal $v",
+        14,
+    ),
+];
+
+#[test]
+fn turns_tasks_waits_and_bytes_cost(rt: HostRuntime) -> Result<(), Fail> {
+    for (lines, cost) in COSTS {
+        let found = cost_of(&rt, rt.alloc(), lines)?;
+        assert!(rt; found == cost, "{lines}");
+    }
+    Ok(())
+}
+
+/// The same for lines that tick, with handlers.
+const TICK_COSTS: [(&str, u64); 5] = [
+    ("timebase_tick $b 1", 5),
+    (
+        "timebase_tick $b 1\nend\nhandler h\nbin_sem_give $s\nbin_sem_give $s",
+        45,
+    ),
+    (
+        "timebase_tick $b 1\ntimebase_tick $b 1\nend\nhandler g\nbin_sem_give $s\nend\nhandler h\nqueue_get $q 64 check",
+        67,
+    ),
+    (
+        "task_create $t \"t\" x 0 1\nend\nhandler h\nend\nhandler g\nbin_sem_give $s\nend\ntask x\ntimebase_tick $b 1",
+        37,
+    ),
+    (
+        "repeat 100000\nrepeat 100000\nrepeat 100000\ntimebase_tick $b 1\nend\nend\nend\nend\nhandler h\nqueue_get $q 4294967295 check",
+        u64::MAX,
+    ),
+];
+
+#[test]
+fn each_tick_costs_the_dearest_handler(rt: HostRuntime) -> Result<(), Fail> {
+    for (lines, cost) in TICK_COSTS {
+        let found = cost_of(&rt, rt.alloc(), lines)?;
+        assert!(rt; found == cost, "{lines}");
+    }
+    Ok(())
+}
+
+/// Whether the line expects this code, or nothing where it is 0.
+fn expects(app: &App, line: u32, code: i32) -> bool {
+    match app.expectation(line) {
+        Some(expect) => expect.code == code,
+        None => code == 0,
+    }
+}
+
+#[test]
+fn an_expectation_is_found_by_its_line(rt: HostRuntime) -> Result<(), Fail> {
+    let lines = "task_create $t \"t\" w 0 1\nrepeat 3\ntask_delay 0 -> -3\nend";
+    let app = app_of(&rt, rt.alloc(), lines)?;
+    for (line, code) in [(3, 0), (5, -3), (9, 0), (11, -4), (12, 0)] {
+        assert!(rt; expects(&app, line, code), "at {line}");
+    }
+    Ok(())
+}
