@@ -515,7 +515,7 @@ fn found_between(start: u32, interval: u32, from: u64, to: u64) -> u64 {
     let mut found = 0;
     for sum in from..to {
         if expires_at(start, interval, sum + 1) {
-            found += 1;
+            found = found.saturating_add(1);
         }
     }
     found
