@@ -1,17 +1,5 @@
-//! Tests of the parts and of the machine, call by call.
+//! Tests of the machine, call by call.
 #![tactic(auto)]
 
 #[cfg(test)]
-mod condvars;
-#[cfg(test)]
 mod machine;
-#[cfg(test)]
-mod mutexes;
-#[cfg(test)]
-mod queues;
-#[cfg(test)]
-mod semaphores;
-#[cfg(test)]
-mod tasks;
-#[cfg(test)]
-mod timers;

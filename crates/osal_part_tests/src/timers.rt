@@ -27,8 +27,6 @@ const V: u32 = 0x0009_0003;
 
 const W: u32 = 0x0009_0004;
 
-/// The most microseconds to which a timebase runs: 2^62.
-
 const LONG: &[u8] = b"a-name-of-20-bytes--";
 
 #[derive(Clone, Copy)]
@@ -512,7 +510,7 @@ fn expires_at(start: u32, interval: u32, sum: u64) -> bool {
 
 // How many expiries of such a timer a search finds above one sum and not above another.
 fn found_between(start: u32, interval: u32, from: u64, to: u64) -> u64 {
-    let mut found = 0;
+    let mut found = 0u64;
     for sum in from..to {
         if expires_at(start, interval, sum + 1) {
             found = found.saturating_add(1);
