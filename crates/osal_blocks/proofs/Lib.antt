@@ -1,0 +1,10 @@
+pub mod Walks
+pub mod Apart
+pub mod Shifted
+pub mod Transferred
+pub mod Opened
+pub mod Laid
+pub mod Copied
+pub mod Files
+pub mod Whole
+pub mod Written

@@ -1,0 +1,5 @@
+//! Tests of the storage of a volume.
+#![tactic(auto)]
+
+#[cfg(test)]
+mod blocks;

@@ -1,0 +1,17 @@
+pub mod Paths
+pub mod Children
+pub mod Walks
+pub mod Writing
+pub mod Filling
+pub mod Emptying
+pub mod Moving
+pub mod Counting
+pub mod Maps
+pub mod Seen
+pub mod Making
+pub mod Entries
+pub mod Removing
+pub mod Putting
+pub mod Directories
+pub mod Renaming
+pub mod Shifting

@@ -1,0 +1,10 @@
+pub mod Paths
+pub mod Nodes
+pub mod Steps
+pub mod Slots
+pub mod SlotSteps
+pub mod Code
+pub mod Order
+pub mod Sound
+pub mod Listing
+pub mod Gathering

@@ -1,0 +1,9 @@
+pub mod Sums
+pub mod Held
+pub mod Changes
+pub mod Calls
+pub mod Names
+pub mod Rooms
+pub mod Copies
+pub mod Moves
+pub mod Renames
