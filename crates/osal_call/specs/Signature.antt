@@ -1,12 +1,28 @@
--- What each call of the machine is: one row a call.
-use Rattle.std.specs.Prelude.{◌==◌, ◌&&◌, ℕ, Bool, true, false, Option, Some, None, is_some, length, nat_lt, if◌then◌else◌}
+-- What each call of the machine is: one row a call. Behind them the calls that a line of an application may make, by the
+-- shape of their arguments, with their words.
+use Rattle.std.specs.Prelude.{◌==◌, ◌&&◌, ℕ, Bool, true, false, List, [], ◌∷◌, Option, Some, None, codes, is_some, length, nat_lt, if◌then◌else◌}
+use Rattle.std.specs.List.{find}
+use Rattle.std.specs.Str.{bytes_eq}
 use Rattle.osal_base.specs.declared.time.Timeout.{Timeout}
 use Rattle.osal_base.specs.declared.time.Timeout.TheVariants as timeout
 use Rattle.osal_base.specs.Identifier.{type_of}
 use Rattle.osal_base.specs.Name.{name_fault}
 use Rattle.osal_base.specs.Limits.{lowest_priority}
+use Rattle.osal_base.specs.Text.{Text}
 use Rattle.osal_call.specs.declared.call.Call.{Call}
 use Rattle.osal_call.specs.declared.call.Call.TheVariants as call
+use Rattle.osal_call.specs.declared.word.ObjectWord.{ObjectWord}
+use Rattle.osal_call.specs.declared.word.ObjectWord.TheVariants as object
+use Rattle.osal_call.specs.declared.word.NameWord.{NameWord}
+use Rattle.osal_call.specs.declared.word.NameWord.TheVariants as name_word
+use Rattle.osal_call.specs.declared.word.WaitWord.{WaitWord}
+use Rattle.osal_call.specs.declared.word.WaitWord.TheVariants as wait_word
+use Rattle.osal_call.specs.declared.word.ValueWord.{ValueWord}
+use Rattle.osal_call.specs.declared.word.ValueWord.TheVariants as value_word
+use Rattle.osal_call.specs.declared.word.NumberWord.{NumberWord}
+use Rattle.osal_call.specs.declared.word.NumberWord.TheVariants as number_word
+use Rattle.osal_call.specs.declared.word.CallWord.{CallWord}
+use Rattle.osal_call.specs.declared.word.CallWord.TheVariants as word
 
 -- the number of the part that has the objects of a type, by the type's number; 0 where no part has any
 abbrev pub part_of_type : ℕ → ℕ
@@ -201,3 +217,162 @@ is_wait_end made = is_end (signature made).role
 -- whether a call ends a wait
 abbrev pub ends_wait : Call → Bool
 ends_wait made = is_closing (signature made).role
+
+-- the call on an object
+abbrev pub object_call : ObjectWord → ℕ → Call
+object_call object.TaskDelete id = call.TaskDelete id
+object_call object.TaskInfo id = call.TaskInfo id
+object_call object.QueueDelete id = call.QueueDelete id
+object_call object.QueueInfo id = call.QueueInfo id
+object_call object.CountSemGive id = call.CountSemGive id
+object_call object.CountSemDelete id = call.CountSemDelete id
+object_call object.CountSemInfo id = call.CountSemInfo id
+object_call object.BinSemGive id = call.BinSemGive id
+object_call object.BinSemFlush id = call.BinSemFlush id
+object_call object.BinSemDelete id = call.BinSemDelete id
+object_call object.BinSemInfo id = call.BinSemInfo id
+object_call object.MutSemTake id = call.MutSemTake id
+object_call object.MutSemGive id = call.MutSemGive id
+object_call object.MutSemDelete id = call.MutSemDelete id
+object_call object.MutSemInfo id = call.MutSemInfo id
+object_call object.CondvarLock id = call.CondvarLock id
+object_call object.CondvarUnlock id = call.CondvarUnlock id
+object_call object.CondvarSignal id = call.CondvarSignal id
+object_call object.CondvarBroadcast id = call.CondvarBroadcast id
+object_call object.CondvarDelete id = call.CondvarDelete id
+object_call object.TimebaseFreeRun id = call.TimebaseFreeRun id
+object_call object.TimebaseDelete id = call.TimebaseDelete id
+object_call object.TimerDelete id = call.TimerDelete id
+object_call object.TimerInfo id = call.TimerInfo id
+object_call object.Hold id = call.Hold id
+object_call object.Release id = call.Release id
+
+-- the call with a name
+abbrev pub name_call : NameWord → Text → Call
+name_call name_word.TaskFind text = call.TaskFind text
+name_call name_word.QueueFind text = call.QueueFind text
+name_call name_word.CountSemFind text = call.CountSemFind text
+name_call name_word.BinSemFind text = call.BinSemFind text
+name_call name_word.MutSemCreate text = call.MutSemCreate text
+name_call name_word.MutSemFind text = call.MutSemFind text
+name_call name_word.CondvarCreate text = call.CondvarCreate text
+name_call name_word.CondvarFind text = call.CondvarFind text
+name_call name_word.TimebaseCreate text = call.TimebaseCreate text
+name_call name_word.TimebaseFind text = call.TimebaseFind text
+name_call name_word.TimerFind text = call.TimerFind text
+
+-- the call on an object, with a wait
+abbrev pub wait_call : WaitWord → ℕ → Timeout → Call
+wait_call wait_word.CountSemTake id until = call.CountSemTake id until
+wait_call wait_word.BinSemTake id until = call.BinSemTake id until
+wait_call wait_word.CondvarWait id until = call.CondvarWait id until
+
+-- the call with a name and a value
+abbrev pub value_call : ValueWord → Text → ℕ → Call
+value_call value_word.CountSemCreate text initial = call.CountSemCreate text initial
+value_call value_word.BinSemCreate text initial = call.BinSemCreate text initial
+
+-- the call on an object, with a number
+abbrev pub number_call : NumberWord → ℕ → ℕ → Call
+number_call number_word.TaskSetPriority id amount = call.TaskSetPriority id amount
+number_call number_word.TimebaseTick id amount = call.TimebaseTick id amount
+
+-- the words of the calls with an identifier alone
+abbrev pub object_text : ObjectWord → List ℕ
+object_text object.TaskDelete = codes "task_delete"
+object_text object.TaskInfo = codes "task_info"
+object_text object.QueueDelete = codes "queue_delete"
+object_text object.QueueInfo = codes "queue_info"
+object_text object.CountSemGive = codes "count_sem_give"
+object_text object.CountSemDelete = codes "count_sem_delete"
+object_text object.CountSemInfo = codes "count_sem_info"
+object_text object.BinSemGive = codes "bin_sem_give"
+object_text object.BinSemFlush = codes "bin_sem_flush"
+object_text object.BinSemDelete = codes "bin_sem_delete"
+object_text object.BinSemInfo = codes "bin_sem_info"
+object_text object.MutSemTake = codes "mut_sem_take"
+object_text object.MutSemGive = codes "mut_sem_give"
+object_text object.MutSemDelete = codes "mut_sem_delete"
+object_text object.MutSemInfo = codes "mut_sem_info"
+object_text object.CondvarLock = codes "condvar_lock"
+object_text object.CondvarUnlock = codes "condvar_unlock"
+object_text object.CondvarSignal = codes "condvar_signal"
+object_text object.CondvarBroadcast = codes "condvar_broadcast"
+object_text object.CondvarDelete = codes "condvar_delete"
+object_text object.TimebaseFreeRun = codes "timebase_free_run"
+object_text object.TimebaseDelete = codes "timebase_delete"
+object_text object.TimerDelete = codes "timer_delete"
+object_text object.TimerInfo = codes "timer_info"
+object_text object.Hold = codes "hold"
+object_text object.Release = codes "release"
+
+-- the words of the calls with a name alone
+abbrev pub name_text : NameWord → List ℕ
+name_text name_word.TaskFind = codes "task_find"
+name_text name_word.QueueFind = codes "queue_find"
+name_text name_word.CountSemFind = codes "count_sem_find"
+name_text name_word.BinSemFind = codes "bin_sem_find"
+name_text name_word.MutSemCreate = codes "mut_sem_create"
+name_text name_word.MutSemFind = codes "mut_sem_find"
+name_text name_word.CondvarCreate = codes "condvar_create"
+name_text name_word.CondvarFind = codes "condvar_find"
+name_text name_word.TimebaseCreate = codes "timebase_create"
+name_text name_word.TimebaseFind = codes "timebase_find"
+name_text name_word.TimerFind = codes "timer_find"
+
+-- the words of the calls with an identifier and a wait
+abbrev pub wait_text : WaitWord → List ℕ
+wait_text wait_word.CountSemTake = codes "count_sem_take"
+wait_text wait_word.BinSemTake = codes "bin_sem_take"
+wait_text wait_word.CondvarWait = codes "condvar_wait"
+
+-- the words of the calls with a name and a value
+abbrev pub value_text : ValueWord → List ℕ
+value_text value_word.CountSemCreate = codes "count_sem_create"
+value_text value_word.BinSemCreate = codes "bin_sem_create"
+
+-- the words of the calls with an identifier and a number
+abbrev pub number_text : NumberWord → List ℕ
+number_text number_word.TaskSetPriority = codes "task_set_priority"
+number_text number_word.TimebaseTick = codes "timebase_tick"
+
+-- the word of a call
+abbrev pub word_text : CallWord → List ℕ
+word_text (word.Object called) = object_text called
+word_text (word.Name called) = name_text called
+word_text (word.Wait called) = wait_text called
+word_text (word.Value called) = value_text called
+word_text (word.Number called) = number_text called
+word_text word.TaskCreate = codes "task_create"
+word_text word.TaskExit = codes "task_exit"
+word_text word.TaskDelay = codes "task_delay"
+word_text word.QueueCreate = codes "queue_create"
+word_text word.QueuePut = codes "queue_put"
+word_text word.QueueGet = codes "queue_get"
+word_text word.TimerAdd = codes "timer_add"
+word_text word.TimerSet = codes "timer_set"
+
+-- the calls that a line may make
+abbrev pub call_words : List CallWord
+call_words =
+    word.Object object.TaskDelete ∷ word.Object object.TaskInfo ∷ word.Object object.QueueDelete
+    ∷ word.Object object.QueueInfo ∷ word.Object object.CountSemGive ∷ word.Object object.CountSemDelete
+    ∷ word.Object object.CountSemInfo ∷ word.Object object.BinSemGive ∷ word.Object object.BinSemFlush
+    ∷ word.Object object.BinSemDelete ∷ word.Object object.BinSemInfo ∷ word.Object object.MutSemTake
+    ∷ word.Object object.MutSemGive ∷ word.Object object.MutSemDelete ∷ word.Object object.MutSemInfo
+    ∷ word.Object object.CondvarLock ∷ word.Object object.CondvarUnlock ∷ word.Object object.CondvarSignal
+    ∷ word.Object object.CondvarBroadcast ∷ word.Object object.CondvarDelete
+    ∷ word.Object object.TimebaseFreeRun ∷ word.Object object.TimebaseDelete ∷ word.Object object.TimerDelete
+    ∷ word.Object object.TimerInfo ∷ word.Object object.Hold ∷ word.Object object.Release
+    ∷ word.Name name_word.TaskFind ∷ word.Name name_word.QueueFind ∷ word.Name name_word.CountSemFind
+    ∷ word.Name name_word.BinSemFind ∷ word.Name name_word.MutSemCreate ∷ word.Name name_word.MutSemFind
+    ∷ word.Name name_word.CondvarCreate ∷ word.Name name_word.CondvarFind ∷ word.Name name_word.TimebaseCreate
+    ∷ word.Name name_word.TimebaseFind ∷ word.Name name_word.TimerFind ∷ word.Wait wait_word.CountSemTake
+    ∷ word.Wait wait_word.BinSemTake ∷ word.Wait wait_word.CondvarWait ∷ word.Value value_word.CountSemCreate
+    ∷ word.Value value_word.BinSemCreate ∷ word.Number number_word.TaskSetPriority ∷ word.Number number_word.TimebaseTick
+    ∷ word.TaskCreate ∷ word.TaskExit ∷ word.TaskDelay ∷ word.QueueCreate ∷ word.QueuePut ∷ word.QueueGet
+    ∷ word.TimerAdd ∷ word.TimerSet ∷ []
+
+-- the call that a word names
+abbrev pub call_word : List ℕ → Option CallWord
+call_word text = find (λ word. bytes_eq text (word_text word)) call_words

@@ -9,6 +9,8 @@ use Rattle.osal_base.specs.declared.time.Timeout.TheVariants as timeout
 use Rattle.osal_base.specs.Identifier.{type_number}
 use Rattle.osal_base.specs.Reply.{Replied, refusal, success, is_waits}
 use Rattle.osal_base.specs.Time.{is_check}
+use Rattle.osal_call.specs.declared.call.Call.{Call}
+use Rattle.osal_call.specs.declared.call.Call.TheVariants as call
 use Rattle.osal_object.specs.declared.waits.WaitRecord.{WaitRecord}
 use Rattle.osal_object.specs.Standing.{standing_on}
 use Rattle.osal_idtable.specs.Table.{Active, active_at}
@@ -16,7 +18,7 @@ use Rattle.osal_idtable.specs.Holds.{is_held}
 use Rattle.osal_object.specs.Waits.{is_of, wait_of, is_due}
 use Rattle.osal_object.specs.Objects.{ObjectsState, no_objects}
 use Rattle.osal_object.specs.Waiting.{abandon_step}
-use Rattle.osal_object.specs.Outcomes.{Write, Put, Mark, Outcome, Refuse, Named, On, Make, Remove, Wait, WaitAfter, Ending, NoWait, WaitsOn, Ends, change, carried_out, ended_as}
+use Rattle.osal_object.specs.Outcomes.{Write, Put, Mark, Outcome, Refuse, Named, On, Make, Remove, Wait, WaitAfter, Ending, NoWait, WaitsOn, Ends, change, carried_out, ended_as, Find, Hold, Release}
 use Rattle.osal_condvar.specs.declared.condvar.Condvar.{Condvar}
 use Rattle.osal_condvar.specs.declared.condvar.Aim.{Aim}
 use Rattle.osal_condvar.specs.declared.condvar.Aim.TheVariants as aim
@@ -150,3 +152,23 @@ wait_abandon_step condvars task = in_condvars (abandon_step condvars.objects tas
 -- whether the end of the task's wait would not wait on
 abbrev pub ready : CondvarState → ℕ → Moment → Bool
 ready condvars task now = not (is_waits (wait_end_step condvars task now).0.answer)
+
+-- the calls of the condition variable part that end no wait
+abbrev pub condvar_call : CondvarState → ℕ → Call → Outcome Condvar CondvarWait
+condvar_call condvars task (call.CondvarCreate name) = condvar_create name.bytes
+condvar_call condvars task (call.CondvarLock id) = condvar_lock task id
+condvar_call condvars task (call.CondvarUnlock id) = condvar_unlock task id
+condvar_call condvars task (call.CondvarSignal id) = condvar_signal condvars id
+condvar_call condvars task (call.CondvarBroadcast id) = condvar_broadcast id
+condvar_call condvars task (call.CondvarWait id wait) = condvar_wait task id wait
+condvar_call condvars task (call.CondvarDelete id) = condvar_delete id
+condvar_call condvars task (call.CondvarFind name) = Find name.bytes
+condvar_call condvars task (call.Hold id) = Hold id
+condvar_call condvars task (call.Release id) = Release id
+condvar_call condvars task other = Refuse status.ErrIncorrectObjState
+
+-- the calls of the condition variable part
+abbrev pub condvar_step : CondvarState → ℕ → Moment → Call → Replied × CondvarState
+condvar_step condvars task now (call.WaitEnd part) = wait_end_step condvars task now
+condvar_step condvars task now (call.WaitAbandon part) = wait_abandon_step condvars task
+condvar_step condvars task now made = done condvars task now (condvar_call condvars task made)

@@ -1,13 +1,15 @@
 //! The condition variable part.
-ghost use Rattle.std.specs.Prelude.{◌≡◌, IsOk, IfOk, is_some};
+ghost use Rattle.std.specs.Prelude.{◌≡◌, IsOk, IfOk, is_some, ◌==◌, IsTrue};
 ghost use Rattle.osal_base.specs.Limits.{Fits};
 ghost use Rattle.osal_base.specs.Reply.{replied};
 ghost use Rattle.osal_idtable.specs.Table.{active_at};
 ghost use Rattle.osal_object.specs.Outcomes.{Find, Hold, Release};
-ghost use Rattle.osal_condvar.specs.Condvars.{no_condvars, done, condvar_create, condvar_delete};
+ghost use Rattle.osal_condvar.specs.Condvars.{no_condvars, done, condvar_create, condvar_delete, condvar_step};
+ghost use Rattle.osal_call.specs.Call.{part_of};
 
 use crate::{Condvar, CondvarWait};
 use osal_base::{Ack, Bytes, Limits, Moment, Name, ObjType, OsalId, OutOfMemory, Room, Status};
+use osal_call::Call;
 use osal_idtable::status_of_name;
 use osal_object::Objects;
 use std::alloc::Global;
@@ -146,5 +148,35 @@ impl CondvarPart {
         ensures { result ≡ is_some (active_at self.now.objects.table id) }
     {
         self.objects.is_active(id)
+    }
+
+    /// Makes a call that is the part's own. The bytes of the reply are left in the room.
+    pub fn apply(
+        &mut self,
+        alloc: Global,
+        task: OsalId,
+        now: Moment,
+        call: &Call,
+        room: &mut Room,
+    ) -> Result<Ack, OutOfMemory>
+        requires { IsTrue (part_of call.now == 5) }
+        ensures step { IfOk result (λ ack. (replied ack room.new, self.new) ≡ condvar_step self.old task now call.now) }
+        ensures memory { IsOk result }
+    {
+        match call {
+            Call::CondvarCreate { name } => self.condvar_create(alloc, task, now, name, room),
+            Call::CondvarLock { id } => self.condvar_lock(alloc, task, now, *id, room),
+            Call::CondvarUnlock { id } => self.condvar_unlock(alloc, task, now, *id, room),
+            Call::CondvarSignal { id } => self.condvar_signal(alloc, task, now, *id, room),
+            Call::CondvarBroadcast { id } => self.condvar_broadcast(alloc, task, now, *id, room),
+            Call::CondvarWait { id, wait } => self.condvar_wait(alloc, task, now, *id, *wait, room),
+            Call::CondvarDelete { id } => self.condvar_delete(alloc, task, now, *id, room),
+            Call::CondvarFind { name } => self.condvar_find(alloc, task, now, name, room),
+            Call::Hold { id } => self.hold(alloc, task, now, *id, room),
+            Call::Release { id } => self.release(alloc, task, now, *id, room),
+            Call::WaitEnd { part } => self.wait_end(alloc, task, now, *part, room),
+            Call::WaitAbandon { part } => self.wait_abandon(alloc, task, now, *part, room),
+            _ => unreachable!(),
+        }
     }
 }

@@ -1,5 +1,5 @@
 //! The driver of an application's tasks, on one thread.
-ghost use Rattle.std.specs.Prelude.{◌≡◌, ◌≤◌, [], None, replicate, OnOk, OnErr};
+ghost use Rattle.std.specs.Prelude.{◌≡◌, ◌≤◌, [], None, length, replicate, OnOk, OnErr};
 ghost use Rattle.osal_base.specs.Limits.{version1};
 ghost use Rattle.osal_machine.specs.Step.{opening};
 ghost use Rattle.osal_script.specs.Cost.{cost_of};
@@ -36,6 +36,7 @@ fn run_on<'a, G: Gate>(
     requires room { cost_of app.now ≤ journal.old.spare }
     ensures settled { OnOk result (IsRun app.now journal.new.entries) }
     ensures memory { OnErr result (IsPartRun app.now journal.new.entries) }
+    ensures few { length journal.new.entries ≤ cost_of app.now }
 {
     stage.begin(alloc, app, journal)?;
     while stage.turn(alloc, app, gate, journal)? {}
@@ -53,6 +54,7 @@ fn run_tasks<G: Gate>(
     requires cost { cost_of app.now ≤ 300000 }
     ensures settled { OnOk result (IsRun app.now journal.new.entries) }
     ensures memory { OnErr result (IsPartRun app.now journal.new.entries) }
+    ensures few { length journal.new.entries ≤ cost_of app.now }
 {
     journal.reserve(app.cost())?;
     let mut stage = Stage::open(alloc)?;
@@ -71,6 +73,7 @@ pub fn drive<G: Gate>(alloc: Global, app: &App, gate: &G, journal: &mut Journal)
     requires cost { cost_of app.now ≤ 300000 }
     ensures settled { result ≡ outcome.Settled → IsRun app.now journal.new.entries }
     ensures memory { result ≡ outcome.OutOfMemory → IsPartRun app.now journal.new.entries }
+    ensures few { length journal.new.entries ≤ cost_of app.now }
 {
     match run_tasks(alloc, app, gate, journal) {
         Ok(()) => Outcome::Settled,

@@ -11,3 +11,4 @@ pub mod Looks
 pub mod Serials
 pub mod WellFormed
 pub mod Written
+pub mod Full

@@ -66,8 +66,8 @@ greater : (first second : Place) → first.wraps < 2 ^ 64 - 1 → Past first sec
 greater first second room (inl most) = inl (omega arith)
 greater first second room (inr past) = past
 
-same_serial : (first second : Place) (kind : ℕ) → compose kind second.serial ≡ compose kind first.serial → second.wraps < 2 ^ 64 - 1 → Past first second → first.wraps < second.wraps
-same_serial first second kind same room (inl most) = absurd (omega arith)
+same_serial : (first second : Place) (kind : ℕ) → compose kind second.serial ≡ compose kind first.serial → first.wraps < 2 ^ 64 - 1 → Past first second → first.wraps < second.wraps
+same_serial first second kind same room (inl most) = omega arith
 same_serial first second kind same room (inr (inl more)) = more
 same_serial first second kind same room (inr (inr later)) = absurd (omega arith)
 
@@ -179,5 +179,5 @@ not_reissued T table name reserved is calls other again is_again same room =
     let serials : compose table.kind got_again.place.serial ≡ compose table.kind first.serial =
     ap (λ kind. compose kind got_again.place.serial) (sym arrived.0) ∙ sym got_again.id ∙ same ∙ got.id ∙ ap (λ p. compose table.kind p.serial) (sym got.at) in
     let wraps : (reserve_step later other).1.wraps ≡ got_again.place.wraps = ap (λ p. p.wraps) got_again.at in
-    let more = same_serial first got_again.place table.kind serials (subst (λ n. n < 2 ^ 64 - 1) wraps room) past in
+    let more = same_serial first got_again.place table.kind serials room past in
     subst (λ n. first.wraps < n) (sym wraps) more

@@ -1,7 +1,9 @@
 -- What holds of every table over any calls.
-use Rattle.std.specs.Prelude.{◌≡◌, ◌<◌, ◌-◌, ◌^◌, ◌⊎◌, ℕ, List, [], ◌∷◌, Option, Ok}
+use Rattle.std.specs.Prelude.{◌≡◌, ◌<◌, ◌-◌, ◌^◌, ◌⊎◌, ℕ, List, [], ◌∷◌, true, Option, Ok, Err}
+use Rattle.osal_base.specs.Limits.{IsCapacity}
 use Rattle.osal_idtable.specs.declared.place.Place.{Place}
-use Rattle.osal_idtable.specs.Table.{TableState, Reserved, with_object}
+use Rattle.osal_idtable.specs.declared.table.ReserveFault.TheVariants as reserve_fault
+use Rattle.osal_idtable.specs.Table.{TableState, Reserved, with_object, is_slot_taken}
 use Rattle.osal_idtable.specs.Next.{place_of}
 use Rattle.osal_idtable.specs.Steps.{reserve_step, finalize_step, remove_step, claim_step}
 use Rattle.osal_idtable.specs.Holds.{hold_step, release_step}
@@ -53,5 +55,14 @@ NotReissued T =
     → (calls : List (Call T)) (other : Option (List ℕ)) (again : Reserved)
     → (reserve_step (after_calls (reserve_step table name).1 calls) other).0 ≡ Ok again
     → again.id ≡ issued.id
-    → (reserve_step (after_calls (reserve_step table name).1 calls) other).1.wraps < 2 ^ 64 - 1
+    → (reserve_step table name).1.wraps < 2 ^ 64 - 1
     → (reserve_step table name).1.wraps < (reserve_step (after_calls (reserve_step table name).1 calls) other).1.wraps
+
+-- where no identifier is free, each slot has one that is active or reserved
+abbrev pub NoneFreeMeansFull : Type 0 → Type 0
+NoneFreeMeansFull T =
+    (table : TableState T) (name : Option (List ℕ)) (slot : ℕ)
+    → IsCapacity table.capacity
+    → (reserve_step table name).0 ≡ Err reserve_fault.NoFreeIds
+    → slot < table.capacity
+    → is_slot_taken table slot ≡ true

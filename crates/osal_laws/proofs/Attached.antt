@@ -20,7 +20,7 @@ use Rattle.osal_time.proofs.FewFire.{few_fire}
 use Rattle.osal_call.specs.declared.call.Call.{Call}
 use Rattle.osal_call.specs.declared.call.Call.TheVariants as call
 use Rattle.osal_call.specs.declared.call.Entry.{Entry}
-use Rattle.osal_machine.specs.Parts.{time_step}
+use Rattle.osal_time.specs.Calls.{time_step}
 use Rattle.osal_machine.specs.Step.{MachineState, opening, step}
 use Rattle.osal_machine.specs.History.{after_entry, replay_from, replay}
 use Rattle.osal_laws.specs.Laws.{TimersAreAttached, TicksFireFew}

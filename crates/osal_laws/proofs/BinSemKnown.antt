@@ -6,24 +6,27 @@ use Rattle.osal_base.specs.Time.{is_check}
 use Rattle.osal_object.specs.declared.waits.WaitRecord.{WaitRecord}
 use Rattle.osal_object.specs.Waits.{wait_of, is_due}
 use Rattle.osal_object.specs.Objects.{ObjectsState}
-use Rattle.osal_object.specs.Outcomes.{Ending, looks}
+use Rattle.osal_object.specs.Outcomes.{looks}
 use Rattle.osal_object.proofs.Moves.{either}
-use Rattle.osal_object.proofs.Carried.{Fits, FitsEnding, abandon_is}
+use Rattle.osal_object.proofs.Carried.{FitsEnding, abandon_is}
 use Rattle.osal_sem.specs.declared.binary.BinSem.{BinSem}
 use Rattle.osal_sem.specs.Binary.{BinSemState, bin_sem_at, is_full, done, take_ending}
 use Rattle.osal_call.specs.declared.call.Call.{Call}
 use Rattle.osal_call.specs.declared.call.Call.TheVariants as call
 use Rattle.osal_call.specs.Signature.{part_of, subject_of, is_refused_before, timeout_of, ends_wait}
-use Rattle.osal_machine.specs.Parts.{bin_sem_call, bin_sem_step}
+use Rattle.osal_sem.specs.Binary.{bin_sem_call, bin_sem_step}
 use Rattle.osal_laws.proofs.Known.{Known, seen_as}
+use Rattle.osal_laws.proofs.Suits.{is_holding, Suits}
 
-fits : (sems : BinSemState) (made : Call) → ends_wait made ≡ false → Fits sems.objects (timeout_of made) (bin_sem_call made)
+fits : (sems : BinSemState) (made : Call) → ends_wait made ≡ false → Suits (is_holding made) sems.objects (timeout_of made) (bin_sem_call made)
 fits sems (call.BinSemGive id) other = λ active at. tt
 fits sems (call.BinSemFlush id) other = λ active at. tt
 fits sems (call.BinSemInfo id) other = λ active at. tt
 fits sems (call.BinSemTake id wait) other = λ active at.
-    either (Fits sems.objects wait) active.object.full _ _ tt
-    (cond_both (is_check wait) _ _ (Fits sems.objects wait) (λ check. tt) (λ may. (refl, may, (ap is_some at, refl, tt))))
+    either (Suits false sems.objects wait) active.object.full _ _ tt
+    (cond_both (is_check wait) _ _ (Suits false sems.objects wait) (λ check. tt) (λ may. (refl, may, (ap is_some at, refl, tt))))
+fits sems (call.Hold id) other = refl
+fits sems (call.Release id) other = refl
 fits sems _ other = tt
 
 looks_at : (task : ℕ) (made : Call) (id : ℕ) → part_of made ≡ 3 → subject_of task made ≡ Some id → is_refused_before made ≡ false → looks (bin_sem_call made) ≡ Some id

@@ -63,7 +63,7 @@ near_part state task part =
     by_number (λ n p. has_wait p task ≡ true → n ≤ 8) state (λ some. omega arith) (λ some. omega arith) (λ some. omega arith) (λ some. omega arith) (λ some. omega arith) (λ some. omega arith) (λ some. omega arith) (λ n some. absurd (false≢true some)) part
 
 -- a wait in a part is of that part
-of_near : (part : ℕ) → part ≤ 8 → part_of_wait part ≡ part
+pub of_near : (part : ℕ) → part ≤ 8 → part_of_wait part ≡ part
 of_near part near = ap (λ b. cond b 0 part) (le-ltb 8 part near)
 
 -- a wait in a part that is not there is of the task part

@@ -7,26 +7,29 @@ use Rattle.osal_base.specs.Time.{is_check}
 use Rattle.osal_object.specs.declared.waits.WaitRecord.{WaitRecord}
 use Rattle.osal_object.specs.Waits.{wait_of, is_due}
 use Rattle.osal_object.specs.Objects.{ObjectsState}
-use Rattle.osal_object.specs.Outcomes.{Ending, looks}
+use Rattle.osal_object.specs.Outcomes.{looks}
 use Rattle.osal_object.proofs.Moves.{either}
-use Rattle.osal_object.proofs.Carried.{Fits, FitsEnding, abandon_is}
+use Rattle.osal_object.proofs.Carried.{FitsEnding, abandon_is}
 use Rattle.osal_sem.specs.declared.counting.CountSem.{CountSem}
 use Rattle.osal_sem.specs.Counting.{CountSemState, count_sem_at, value_of, value_limit, done, take_ending}
 use Rattle.osal_call.specs.declared.call.Call.{Call}
 use Rattle.osal_call.specs.declared.call.Call.TheVariants as call
 use Rattle.osal_call.specs.Signature.{part_of, subject_of, is_refused_before, timeout_of, ends_wait}
-use Rattle.osal_machine.specs.Parts.{count_sem_call, count_sem_step}
+use Rattle.osal_sem.specs.Counting.{count_sem_call, count_sem_step}
 use Rattle.osal_laws.proofs.Known.{Known, seen_as}
+use Rattle.osal_laws.proofs.Suits.{is_holding, Suits}
 
-fits : (sems : CountSemState) (made : Call) → ends_wait made ≡ false → Fits sems.objects (timeout_of made) (count_sem_call made)
+fits : (sems : CountSemState) (made : Call) → ends_wait made ≡ false → Suits (is_holding made) sems.objects (timeout_of made) (count_sem_call made)
 fits sems (call.CountSemCreate name value) other =
-    either (Fits sems.objects timeout.Check) (nat_lt value_limit value) _ _ tt tt
+    either (Suits false sems.objects timeout.Check) (nat_lt value_limit value) _ _ tt tt
 fits sems (call.CountSemGive id) other = λ active at.
-    either (Fits sems.objects timeout.Check) (nat_lt active.object.value value_limit) _ _ tt tt
+    either (Suits false sems.objects timeout.Check) (nat_lt active.object.value value_limit) _ _ tt tt
 fits sems (call.CountSemInfo id) other = λ active at. tt
 fits sems (call.CountSemTake id wait) other = λ active at.
-    either (Fits sems.objects wait) (nat_lt 0 active.object.value) _ _ tt
-    (cond_both (is_check wait) _ _ (Fits sems.objects wait) (λ check. tt) (λ may. (refl, may, (ap is_some at, refl, tt))))
+    either (Suits false sems.objects wait) (nat_lt 0 active.object.value) _ _ tt
+    (cond_both (is_check wait) _ _ (Suits false sems.objects wait) (λ check. tt) (λ may. (refl, may, (ap is_some at, refl, tt))))
+fits sems (call.Hold id) other = refl
+fits sems (call.Release id) other = refl
 fits sems _ other = tt
 
 looks_at : (task : ℕ) (made : Call) (id : ℕ) → part_of made ≡ 2 → subject_of task made ≡ Some id → is_refused_before made ≡ false → looks (count_sem_call made) ≡ Some id

@@ -1,6 +1,5 @@
 -- In every state of the machine the holds of objects are counted and the tables are well formed: each move keeps both.
-use Rattle.std.proofs.Common.{ℕ, List, [], ◌∷◌, sym, subst}
-use Rattle.osal_base.specs.declared.limits.Limits.{Limits}
+use Rattle.std.proofs.Common.{◌≡◌, ℕ, List, [], ◌∷◌, refl, sym, subst, ◌∙◌}
 use Rattle.osal_object.specs.Objects.{ObjectsState}
 use Rattle.osal_object.specs.Moves.{Move, moved, after_moves, MayMove, MayMoveAll}
 use Rattle.osal_idtable.specs.WellFormed.{IsWellFormed}
@@ -8,11 +7,12 @@ use Rattle.osal_object.specs.ObjectLaws.{IsCounted}
 use Rattle.osal_idtable.proofs.WellFormed.{stays_well_formed}
 use Rattle.osal_object.proofs.ByCalls.{tables_stay_well_formed}
 use Rattle.osal_object.proofs.Counted.{holds_are_counted}
+use Rattle.osal_object.proofs.Shapes.{move_shape}
 use Rattle.osal_call.specs.declared.call.Entry.{Entry}
 use Rattle.osal_machine.specs.Parts.{PartState}
-use Rattle.osal_machine.specs.Step.{opening, part_in}
-use Rattle.osal_machine.specs.History.{replay}
-use Rattle.osal_laws.specs.Laws.{ObjectsAreCounted, TablesAreWellFormed}
+use Rattle.osal_machine.specs.Step.{MachineState, opening, part_in}
+use Rattle.osal_machine.specs.History.{replay_from}
+use Rattle.osal_laws.specs.Laws.{AreCounted, ObjectsAreCounted, TablesAreWellFormed}
 use Rattle.osal_laws.proofs.PartMoves.{EachMoves, tasks_in, tasks_move, queues_in, queues_move, count_sems_in, count_sems_move, bin_sems_in, bin_sems_move, mutexes_in, mutexes_move, condvars_in, condvars_move, timebases_in, timebases_move, timers_in, timers_move}
 use Rattle.osal_laws.proofs.Replays.{replay_moves}
 
@@ -26,21 +26,26 @@ moves_keep P kept objects [] holds may = holds
 moves_keep P kept objects (move ∷ moves) holds may =
     moves_keep P kept (moved objects move) moves (kept objects move holds may.0) may.1
 
-module _ (limits : Limits) (entries : List Entry) where
+module _ (start : MachineState) (entries : List Entry) where
   module _ {T W : Type 0} (objects_in : PartState → ObjectsState T W) (each : EachMoves objects_in) (number : ℕ) where
-    -- the objects of the part of the number at the opening
+    -- the objects of the part of the number at the start
     abbrev first : ObjectsState T W
-    first = objects_in (part_in number (opening limits))
+    first = objects_in (part_in number start)
 
     -- those after the entries
     abbrev last : ObjectsState T W
-    last = objects_in (part_in number (replay limits entries))
+    last = objects_in (part_in number (replay_from start entries))
 
     -- what each move keeps holds after the entries
     replay_keeps : (P : ObjectsState T W → Type 0) → EachKeeps P → P first → P last
     replay_keeps P kept holds =
-        let by = replay_moves objects_in each number entries (opening limits) in
+        let by = replay_moves objects_in each number entries start in
         subst P (sym by.are) (moves_keep P kept first by.moves holds by.may)
+
+    -- the table keeps its type
+    pub kind_kept : last.table.kind ≡ first.table.kind
+    kind_kept =
+        replay_keeps (λ objects. objects.table.kind ≡ first.table.kind) (λ objects move same may. (move_shape objects move).kind ∙ same) refl
 
     counted_in : IsCounted first → IsCounted last
     counted_in = replay_keeps IsCounted (holds_are_counted T W).1
@@ -48,28 +53,42 @@ module _ (limits : Limits) (entries : List Entry) where
     well_formed_in : IsWellFormed first.table → IsWellFormed last.table
     well_formed_in = replay_keeps (λ objects. IsWellFormed objects.table) (λ objects move holds may. tables_stay_well_formed T W objects move holds)
 
+-- where the holds of objects are counted, they are after any entries
+pub counted_from : (start : MachineState) (entries : List Entry) → AreCounted start → AreCounted (replay_from start entries)
+counted_from start entries counted = record {
+  tasks = counted_in start entries tasks_in tasks_move 0 counted.tasks;
+  queues = counted_in start entries queues_in queues_move 1 counted.queues;
+  count_sems = counted_in start entries count_sems_in count_sems_move 2 counted.count_sems;
+  bin_sems = counted_in start entries bin_sems_in bin_sems_move 3 counted.bin_sems;
+  mutexes = counted_in start entries mutexes_in mutexes_move 4 counted.mutexes;
+  condvars = counted_in start entries condvars_in condvars_move 5 counted.condvars;
+  timebases = counted_in start entries timebases_in timebases_move 6 counted.timebases;
+  timers = counted_in start entries timers_in timers_move 6 counted.timers;
+}
+
 -- the holds of an object are those of callers and the open waits that stand on it
 pub objects_counted : ObjectsAreCounted
-objects_counted limits entries fits = record {
-  tasks = counted_in limits entries tasks_in tasks_move 0 ((holds_are_counted _ _).0 _ _ _ fits.tasks);
-  queues = counted_in limits entries queues_in queues_move 1 ((holds_are_counted _ _).0 _ _ _ fits.tasks);
-  count_sems = counted_in limits entries count_sems_in count_sems_move 2 ((holds_are_counted _ _).0 _ _ _ fits.tasks);
-  bin_sems = counted_in limits entries bin_sems_in bin_sems_move 3 ((holds_are_counted _ _).0 _ _ _ fits.tasks);
-  mutexes = counted_in limits entries mutexes_in mutexes_move 4 ((holds_are_counted _ _).0 _ _ _ fits.tasks);
-  condvars = counted_in limits entries condvars_in condvars_move 5 ((holds_are_counted _ _).0 _ _ _ fits.tasks);
-  timebases = counted_in limits entries timebases_in timebases_move 6 ((holds_are_counted _ _).0 _ _ _ fits.tasks);
-  timers = counted_in limits entries timers_in timers_move 6 ((holds_are_counted _ _).0 _ _ _ fits.tasks);
-}
+objects_counted limits entries fits =
+    counted_from (opening limits) entries (record {
+      tasks = (holds_are_counted _ _).0 _ _ _ fits.tasks;
+      queues = (holds_are_counted _ _).0 _ _ _ fits.tasks;
+      count_sems = (holds_are_counted _ _).0 _ _ _ fits.tasks;
+      bin_sems = (holds_are_counted _ _).0 _ _ _ fits.tasks;
+      mutexes = (holds_are_counted _ _).0 _ _ _ fits.tasks;
+      condvars = (holds_are_counted _ _).0 _ _ _ fits.tasks;
+      timebases = (holds_are_counted _ _).0 _ _ _ fits.tasks;
+      timers = (holds_are_counted _ _).0 _ _ _ fits.tasks;
+    })
 
 -- the tables are well formed
 pub tables_well_formed : TablesAreWellFormed
 tables_well_formed limits entries fits = record {
-  tasks = well_formed_in limits entries tasks_in tasks_move 0 ((stays_well_formed _).0 _ _ fits.tasks);
-  queues = well_formed_in limits entries queues_in queues_move 1 ((stays_well_formed _).0 _ _ fits.queues);
-  count_sems = well_formed_in limits entries count_sems_in count_sems_move 2 ((stays_well_formed _).0 _ _ fits.count_sems);
-  bin_sems = well_formed_in limits entries bin_sems_in bin_sems_move 3 ((stays_well_formed _).0 _ _ fits.bin_sems);
-  mutexes = well_formed_in limits entries mutexes_in mutexes_move 4 ((stays_well_formed _).0 _ _ fits.mutexes);
-  condvars = well_formed_in limits entries condvars_in condvars_move 5 ((stays_well_formed _).0 _ _ fits.condvars);
-  timebases = well_formed_in limits entries timebases_in timebases_move 6 ((stays_well_formed _).0 _ _ fits.timebases);
-  timers = well_formed_in limits entries timers_in timers_move 6 ((stays_well_formed _).0 _ _ fits.timers);
+  tasks = well_formed_in (opening limits) entries tasks_in tasks_move 0 ((stays_well_formed _).0 _ _ fits.tasks);
+  queues = well_formed_in (opening limits) entries queues_in queues_move 1 ((stays_well_formed _).0 _ _ fits.queues);
+  count_sems = well_formed_in (opening limits) entries count_sems_in count_sems_move 2 ((stays_well_formed _).0 _ _ fits.count_sems);
+  bin_sems = well_formed_in (opening limits) entries bin_sems_in bin_sems_move 3 ((stays_well_formed _).0 _ _ fits.bin_sems);
+  mutexes = well_formed_in (opening limits) entries mutexes_in mutexes_move 4 ((stays_well_formed _).0 _ _ fits.mutexes);
+  condvars = well_formed_in (opening limits) entries condvars_in condvars_move 5 ((stays_well_formed _).0 _ _ fits.condvars);
+  timebases = well_formed_in (opening limits) entries timebases_in timebases_move 6 ((stays_well_formed _).0 _ _ fits.timebases);
+  timers = well_formed_in (opening limits) entries timers_in timers_move 6 ((stays_well_formed _).0 _ _ fits.timers);
 }

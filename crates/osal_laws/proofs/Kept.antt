@@ -1,20 +1,20 @@
 -- A refused call leaves the machine, and so does the end of a wait that waits on, or in a part where the task has none.
-use Rattle.std.proofs.Common.{◌≡◌, ◌==◌, ℕ, false, cond, nat_lt, Option, Some, None, is_some, refl, ap, ◌∙◌, arith}
-use Rattle.std.proofs.lemmas.Bool.{cond_both, true≢false}
+use Rattle.std.proofs.Common.{◌≡◌, ◌==◌, ℕ, pos, negsuc, true, false, nat_lt, refl, ap, ◌∙◌, arith}
+use Rattle.std.proofs.lemmas.Bool.{cond_both, both_ways, le-ltb}
 use Rattle.std.proofs.lemmas.Bool.Decides.{nat_tests}
+use Rattle.osal_base.specs.declared.reply.Answer.{Answer}
+use Rattle.osal_base.specs.declared.reply.Answer.TheVariants as answer
 use Rattle.osal_base.specs.declared.status.Status.TheVariants as status
 use Rattle.osal_base.specs.declared.time.Moment.{Moment}
-use Rattle.osal_base.specs.Reply.{Replied, refusal, is_waits}
-use Rattle.osal_object.specs.declared.waits.WaitRecord.{WaitRecord}
-use Rattle.osal_object.specs.Waits.{wait_of}
+use Rattle.osal_base.specs.Reply.{refusal, is_waits}
 use Rattle.osal_task.specs.Tasks.{TaskState}
 use Rattle.osal_call.specs.declared.call.Call.{Call}
 use Rattle.osal_call.specs.declared.call.Call.TheVariants as call
 use Rattle.osal_call.specs.Signature.{part_of, is_wait_end}
 use Rattle.osal_machine.specs.Parts.{PartState, Tasks, Queues, CountSems, BinSems, Mutexes, Condvars, Time, Absent, as_part, part_step}
-use Rattle.osal_machine.specs.Step.{MachineState, part_in, with_part, in_machine}
+use Rattle.osal_machine.specs.Step.{MachineState, part_in, with_part, in_machine, step}
 use Rattle.osal_machine.specs.OpenWaits.{has_wait}
-use Rattle.osal_laws.specs.Laws.{RefusedCallsChangeNothing, EndsThatWaitChangeNothing, EndsOfNoWaitChangeNothing}
+use Rattle.osal_laws.specs.Laws.{RefusedCallsChangeNothing, EndsThatWaitChangeNothing, EndsOfNoWaitChangeNothing, is_below_zero}
 use Rattle.osal_base.specs.Reply.{is_refusal}
 use Rattle.osal_laws.proofs.Own.{by_number}
 use Rattle.osal_object.proofs.Refusals.{Leaves, same, within}
@@ -70,10 +70,19 @@ module _ (task : ℕ) (now : Moment) where
 own_part : (state : MachineState) (number : ℕ) → with_part state (part_in number state) ≡ state
 own_part state = by_number (λ n part. with_part state part ≡ state) state refl refl refl refl refl refl refl (λ n. refl)
 
+-- a code below 0 is one other than success
+below_refused : (given : Answer) → is_below_zero given ≡ true → is_refusal given ≡ true
+below_refused (answer.Code (pos n)) below = absurd (both_ways (is_below_zero (answer.Code (pos n))) (le-ltb n 0 (omega arith)) below)
+below_refused (answer.Code (negsuc n)) below = refl
+below_refused answer.Waits below = below
+below_refused answer.Go below = below
+below_refused answer.Deleted below = below
+
 -- a refused call changes nothing
 pub refused_kept : RefusedCallsChangeNothing
-refused_kept state task now made other refused =
-    ap (with_part state) ((part_keeps task now made other (part_in (part_of made) state)).left refused) ∙ own_part state (part_of made)
+refused_kept state task now made other below =
+    ap (with_part state)
+    ((part_keeps task now made other (part_in (part_of made) state)).left (below_refused (step state task now made).0.answer below)) ∙ own_part state (part_of made)
 
 -- the end of a wait that waits on changes nothing
 pub waiting_kept : EndsThatWaitChangeNothing

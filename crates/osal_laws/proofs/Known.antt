@@ -14,6 +14,7 @@ use Rattle.osal_object.proofs.WaitSteps.{IsWaitStep, IsWaitEnd, Steps}
 use Rattle.osal_object.proofs.Moves.{IsMove, either, stays}
 use Rattle.osal_object.proofs.Refusals.{Leaves, same}
 use Rattle.osal_object.proofs.Carried.{Fits, FitsEnding, outcome_moves, outcome_keeps, outcome_waits, ending_moves, ending_stays, ending_ends, gone_refused, given_up_moves, given_up_closed, abandon_leaves}
+use Rattle.osal_laws.proofs.Suits.{is_holding, Suits, suits_fit}
 use Rattle.osal_call.specs.declared.call.Call.{Call}
 use Rattle.osal_call.specs.declared.call.Call.TheVariants as call
 use Rattle.osal_call.specs.Signature.{part_of, subject_of, is_refused_before, timeout_of, is_wait_end, ends_wait}
@@ -38,7 +39,7 @@ seen_as objects stepped = (stepped.0, objects stepped.1)
 pub record Known {S T W : Type 0} (number : ℕ) (own : ℕ → Bool) (objects : S → ObjectsState T W) (outcome : S → ℕ → Call → Outcome T W) (ending : S → ℕ → Moment → Ending T W) (step : S → ℕ → Moment → Call → Replied × S) : Type 0 where
   pub whole : (old new : S) → objects new ≡ objects old → new ≡ old
   pub calls : (old : S) (task : ℕ) (now : Moment) (made : Call) → ends_wait made ≡ false → seen_as objects (step old task now made) ≡ carried_out (objects old) task now (outcome old task made)
-  pub fits : (old : S) (task : ℕ) (made : Call) → ends_wait made ≡ false → Fits (objects old) (timeout_of made) (outcome old task made)
+  pub fits : (old : S) (task : ℕ) (made : Call) → ends_wait made ≡ false → Suits (is_holding made) (objects old) (timeout_of made) (outcome old task made)
   pub looks_at : (old : S) (task : ℕ) (made : Call) (id : ℕ) → part_of made ≡ number → subject_of task made ≡ Some id → is_refused_before made ≡ false → looks (outcome old task made) ≡ Some id
   pub owns : own number ≡ true
   pub ends : (old : S) (task : ℕ) (now : Moment) (part : ℕ) → seen_as objects (step old task now (call.WaitEnd part)) ≡ ended_as (objects old) task (cond (own part) (ending old task now) NoWait)
@@ -66,11 +67,16 @@ module _ {S T W : Type 0} {number : ℕ} {own : ℕ → Bool} {objects : S → O
       subst P (sym (known.abandons old task now part))
       (either (λ (e : Ending T W). P (ended_as (objects old) task e)) (own part) (given_up (wait_of (objects old).waits task)) NoWait holds none)
 
+  -- the outcome of a call that ends no wait fits it
+  pub known_fits : (made : Call) → ends_wait made ≡ false → Fits (objects old) (timeout_of made) (outcome old task made)
+  known_fits made other =
+      suits_fit (is_holding made) (objects old) (timeout_of made) (outcome old task made) (known.fits old task made other)
+
   -- each call makes one move
   pub known_moves : (made : Call) → IsMove (objects old) (objects (step old task now made).1)
   known_moves =
       of_call (λ made. IsMove (objects old) (objects (step old task now made).1))
-      (λ made other. by_outcome (λ s. IsMove (objects old) s.1) made other (outcome_moves (objects old) task now (timeout_of made) (outcome old task made) (known.fits old task made other)))
+      (λ made other. by_outcome (λ s. IsMove (objects old) s.1) made other (outcome_moves (objects old) task now (timeout_of made) (outcome old task made) (known_fits made other)))
       (λ part. by_ending (λ s. IsMove (objects old) s.1) part (ending_moves (objects old) task (ending old task now)) (stays (objects old)))
       (λ part. by_giving_up (λ s. IsMove (objects old) s.1) part (given_up_moves (objects old) task) (stays (objects old)))
 
@@ -114,7 +120,7 @@ module _ {S T W : Type 0} {number : ℕ} {own : ℕ → Bool} {objects : S → O
   pub known_waits : (made : Call) → ends_wait made ≡ false → IsWaitStep (seen_of (objects old).waits) task (timeout_of made) (step old task now made).0.answer (seen_of (objects (step old task now made).1).waits)
   known_waits made other =
       by_outcome (λ s. Steps (objects old) task (timeout_of made) s) made other
-      (outcome_waits (objects old) task now (timeout_of made) (outcome old task made) (known.fits old task made other))
+      (outcome_waits (objects old) task now (timeout_of made) (outcome old task made) (known_fits made other))
 
   -- the end of a wait in the part
   pub known_ends : IsWaitEnd (seen_of (objects old).waits) task (step old task now (call.WaitEnd number)).0.answer (seen_of (objects (step old task now (call.WaitEnd number)).1).waits)

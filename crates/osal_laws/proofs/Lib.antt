@@ -16,6 +16,7 @@ pub mod QueueOrder
 pub mod QueueLaw
 pub mod Kept
 pub mod Counted
+pub mod Suits
 pub mod Known
 pub mod QueueKnown
 pub mod BinSemKnown
@@ -25,3 +26,12 @@ pub mod TasksAlike
 pub mod CountSemKnown
 pub mod MutexKnown
 pub mod TimeKnown
+pub mod OneTurns
+pub mod Over
+pub mod Valued
+pub mod Bounded
+pub mod Inactive
+pub mod Quiet
+pub mod Shifts
+pub mod NewObjects
+pub mod HoldsMade

@@ -29,7 +29,7 @@ use Rattle.osal_task.specs.Delays.{delay_ending}
 use Rattle.osal_call.specs.declared.call.Call.{Call}
 use Rattle.osal_call.specs.declared.call.Call.TheVariants as call
 use Rattle.osal_call.specs.declared.call.Entry.{Entry}
-use Rattle.osal_machine.specs.Parts.{task_call, task_step}
+use Rattle.osal_task.specs.Calls.{task_call, task_step}
 use Rattle.osal_machine.specs.Step.{MachineState, opening, step}
 use Rattle.osal_machine.specs.History.{after_entry, replay_from, replay}
 use Rattle.osal_laws.specs.Laws.{MarkedTasksAreUnheld, DeletedTasksAreGone}

@@ -8,9 +8,9 @@ use Rattle.osal_idtable.specs.Table.{Active}
 use Rattle.osal_idtable.specs.Holds.{is_held}
 use Rattle.osal_object.specs.Waits.{wait_of}
 use Rattle.osal_object.specs.Objects.{ObjectsState}
-use Rattle.osal_object.specs.Outcomes.{Ending, looks}
+use Rattle.osal_object.specs.Outcomes.{looks}
 use Rattle.osal_object.proofs.Moves.{either}
-use Rattle.osal_object.proofs.Carried.{Fits, FitsEnding, abandon_is}
+use Rattle.osal_object.proofs.Carried.{FitsEnding, abandon_is}
 use Rattle.osal_mutex.specs.declared.mutex.Lock.{Lock}
 use Rattle.osal_mutex.specs.declared.mutex.Lock.TheVariants as lock
 use Rattle.osal_mutex.specs.declared.mutex.Mutex.{Mutex}
@@ -18,30 +18,33 @@ use Rattle.osal_mutex.specs.Mutexes.{MutexState, mutex_at, is_owned, nesting_lim
 use Rattle.osal_call.specs.declared.call.Call.{Call}
 use Rattle.osal_call.specs.declared.call.Call.TheVariants as call
 use Rattle.osal_call.specs.Signature.{part_of, subject_of, is_refused_before, timeout_of, ends_wait}
-use Rattle.osal_machine.specs.Parts.{mutex_call, mutex_step}
+use Rattle.osal_mutex.specs.Mutexes.{mutex_call, mutex_step}
 use Rattle.osal_laws.proofs.Known.{Known, seen_as}
+use Rattle.osal_laws.proofs.Suits.{is_holding, Suits}
 
-take_fits : (mutexes : MutexState) (task id : ℕ) (mutex : Mutex) (lock_now : Lock) → is_some (mutex_at mutexes id) ≡ true → Fits mutexes.objects timeout.Pend (take_of task id mutex lock_now)
+take_fits : (mutexes : MutexState) (task id : ℕ) (mutex : Mutex) (lock_now : Lock) → is_some (mutex_at mutexes id) ≡ true → Suits false mutexes.objects timeout.Pend (take_of task id mutex lock_now)
 take_fits mutexes task id mutex lock.Free there = tt
 take_fits mutexes task id mutex (lock.Owned owner depth) there =
-    either (Fits mutexes.objects timeout.Pend) (owner == task) _ _
-    (either (Fits mutexes.objects timeout.Pend) (nat_lt depth nesting_limit) _ _ tt tt)
+    either (Suits false mutexes.objects timeout.Pend) (owner == task) _ _
+    (either (Suits false mutexes.objects timeout.Pend) (nat_lt depth nesting_limit) _ _ tt tt)
     (refl, refl, (there, refl, tt))
 
-give_fits : (mutexes : MutexState) (task id : ℕ) (mutex : Mutex) (lock_now : Lock) → Fits mutexes.objects timeout.Check (give_of task id mutex lock_now)
+give_fits : (mutexes : MutexState) (task id : ℕ) (mutex : Mutex) (lock_now : Lock) → Suits false mutexes.objects timeout.Check (give_of task id mutex lock_now)
 give_fits mutexes task id mutex lock.Free = tt
 give_fits mutexes task id mutex (lock.Owned owner depth) =
-    either (Fits mutexes.objects timeout.Check) (owner == task) _ _ tt tt
+    either (Suits false mutexes.objects timeout.Check) (owner == task) _ _ tt tt
 
-fits : (mutexes : MutexState) (task : ℕ) (made : Call) → ends_wait made ≡ false → Fits mutexes.objects (timeout_of made) (mutex_call task made)
+fits : (mutexes : MutexState) (task : ℕ) (made : Call) → ends_wait made ≡ false → Suits (is_holding made) mutexes.objects (timeout_of made) (mutex_call task made)
 fits mutexes task (call.MutSemTake id) other = λ active at.
     take_fits mutexes task id active.object active.object.lock (ap is_some at)
 fits mutexes task (call.MutSemGive id) other = λ active at.
     give_fits mutexes task id active.object active.object.lock
 fits mutexes task (call.MutSemDelete id) other = λ active at.
-    either (Fits mutexes.objects timeout.Check) (is_held (Some active)) _ _ tt
-    (either (Fits mutexes.objects timeout.Check) (is_owned active.object.lock) _ _ tt tt)
+    either (Suits false mutexes.objects timeout.Check) (is_held (Some active)) _ _ tt
+    (either (Suits false mutexes.objects timeout.Check) (is_owned active.object.lock) _ _ tt tt)
 fits mutexes task (call.MutSemInfo id) other = λ active at. tt
+fits mutexes task (call.Hold id) other = refl
+fits mutexes task (call.Release id) other = refl
 fits mutexes task _ other = tt
 
 looks_at : (task : ℕ) (made : Call) (id : ℕ) → part_of made ≡ 4 → subject_of task made ≡ Some id → is_refused_before made ≡ false → looks (mutex_call task made) ≡ Some id

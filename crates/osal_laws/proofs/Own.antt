@@ -1,5 +1,5 @@
 -- A call reads and changes its own part alone.
-use Rattle.std.proofs.Common.{◌≡◌, ◌==◌, ℕ, Bool, true, false, cond, nat_eq, inl, inr, refl, sym, ap, subst, arith}
+use Rattle.std.proofs.Common.{◌≡◌, ◌==◌, ℕ, Bool, true, false, cond, nat_eq, inl, inr, refl, sym, subst, arith}
 use Rattle.std.proofs.lemmas.Bool.{cond_both, cases_eq, eqb-true}
 use Rattle.std.proofs.lemmas.Bool.Decides.{nat_tests}
 use Rattle.osal_base.specs.declared.time.Moment.{Moment}
@@ -7,7 +7,9 @@ use Rattle.osal_task.specs.Tasks.{TaskState}
 use Rattle.osal_time.specs.Time.{TimeState}
 use Rattle.osal_call.specs.declared.call.Call.{Call}
 use Rattle.osal_call.specs.Call.{part_of}
-use Rattle.osal_machine.specs.Parts.{PartState, Tasks, Queues, CountSems, BinSems, Mutexes, Condvars, Time, Absent, task_step, time_step, part_step}
+use Rattle.osal_machine.specs.Parts.{PartState, Tasks, Queues, CountSems, BinSems, Mutexes, Condvars, Time, Absent, part_step}
+use Rattle.osal_task.specs.Calls.{task_step}
+use Rattle.osal_time.specs.Calls.{time_step}
 use Rattle.osal_machine.specs.Step.{MachineState, part_in, with_part, step}
 use Rattle.osal_laws.specs.Laws.{CallsChangeTheirPart}
 
@@ -69,18 +71,18 @@ module _ (state : MachineState) (task : ℕ) (now : Moment) (made : Call) where
   own_at part is =
       subst (λ n. part_in n (step state task now made).1 ≡ (part_step (part_in n state) task now made).1) (sym is) (own_step state task now made)
 
+  -- a call leaves the part of a number, or makes a step of it
+  pub after_part : (part : ℕ) (P : PartState → Type 0) → P (part_in part state) → P (part_step (part_in part state) task now made).1 → P (part_in part (step state task now made).1)
+  after_part part P same stepped =
+      elim (cases_eq part (part_of made)) [
+        | inl own ↦ subst P (sym (own_at part own)) stepped
+        | inr ne ↦ subst P (sym (other_kept state task now made part ne)) same
+      ]
+
   -- a call leaves the tasks, or makes a step of the task part
   pub after_tasks : (P : TaskState → Type 0) → P state.tasks → P (task_step state.tasks task now made).1 → P (step state task now made).1.tasks
-  after_tasks P same stepped =
-      elim (cases_eq 0 (part_of made)) [
-        | inl own ↦ subst P (sym (ap (tasks_in state.tasks) (own_at 0 own))) stepped
-        | inr ne ↦ subst P (sym (ap (tasks_in state.tasks) (other_kept state task now made 0 ne))) same
-      ]
+  after_tasks P = after_part 0 (λ part. P (tasks_in state.tasks part))
 
   -- a call leaves the time, or makes a step of the time part
   pub after_time : (P : TimeState → Type 0) → P state.time → P (time_step state.time task now made).1 → P (step state task now made).1.time
-  after_time P same stepped =
-      elim (cases_eq 6 (part_of made)) [
-        | inl own ↦ subst P (sym (ap (time_in state.time) (own_at 6 own))) stepped
-        | inr ne ↦ subst P (sym (ap (time_in state.time) (other_kept state task now made 6 ne))) same
-      ]
+  after_time P = after_part 6 (λ part. P (time_in state.time part))

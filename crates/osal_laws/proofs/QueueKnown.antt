@@ -9,34 +9,37 @@ use Rattle.osal_object.specs.declared.waits.WaitRecord.{WaitRecord}
 use Rattle.osal_idtable.specs.Table.{Active}
 use Rattle.osal_object.specs.Waits.{wait_of, is_due}
 use Rattle.osal_object.specs.Objects.{ObjectsState}
-use Rattle.osal_object.specs.Outcomes.{Ending, looks}
+use Rattle.osal_object.specs.Outcomes.{looks}
 use Rattle.osal_object.proofs.Moves.{either}
-use Rattle.osal_object.proofs.Carried.{Fits, FitsEnding, abandon_is}
+use Rattle.osal_object.proofs.Carried.{FitsEnding, abandon_is}
 use Rattle.osal_queue.specs.Queue.{Queue, may_be_sized}
 use Rattle.osal_queue.specs.Queues.{QueueState, queue_at, done, queue_put, get_first, get_late, got_first, got_from, get_ending}
 use Rattle.osal_call.specs.declared.call.Call.{Call}
 use Rattle.osal_call.specs.declared.call.Call.TheVariants as call
 use Rattle.osal_call.specs.Signature.{part_of, subject_of, is_refused_before, timeout_of, ends_wait}
-use Rattle.osal_machine.specs.Parts.{queue_call, queue_step}
+use Rattle.osal_queue.specs.Queues.{queue_call, queue_step}
 use Rattle.osal_laws.proofs.Known.{Known, seen_as}
+use Rattle.osal_laws.proofs.Suits.{is_holding, Suits}
 
-first_fits : (queues : QueueState) (id : ℕ) (wait : Timeout) (active : Active Queue) (messages : List (List ℕ)) → queue_at queues id ≡ Some active → Fits queues.objects wait (get_first id wait active.object messages)
+first_fits : (queues : QueueState) (id : ℕ) (wait : Timeout) (active : Active Queue) (messages : List (List ℕ)) → queue_at queues id ≡ Some active → Suits false queues.objects wait (get_first id wait active.object messages)
 first_fits queues id wait active [] at =
-    cond_both (is_check wait) _ _ (Fits queues.objects wait) (λ check. tt) (λ may. (refl, may, (ap is_some at, refl, tt)))
+    cond_both (is_check wait) _ _ (Suits false queues.objects wait) (λ check. tt) (λ may. (refl, may, (ap is_some at, refl, tt)))
 first_fits queues id wait active (message ∷ messages) at = tt
 
-fits : (queues : QueueState) (task : ℕ) (made : Call) → ends_wait made ≡ false → Fits queues.objects (timeout_of made) (queue_call task made)
+fits : (queues : QueueState) (task : ℕ) (made : Call) → ends_wait made ≡ false → Suits (is_holding made) queues.objects (timeout_of made) (queue_call task made)
 fits queues task (call.QueueCreate name depth size) other =
-    either (Fits queues.objects timeout.Check) (may_be_sized depth size) _ _ tt tt
+    either (Suits false queues.objects timeout.Check) (may_be_sized depth size) _ _ tt tt
 fits queues task (call.QueuePut id payload) other =
-    either (Fits queues.objects timeout.Check) (length payload.bytes == 0) _ _ tt
+    either (Suits false queues.objects timeout.Check) (length payload.bytes == 0) _ _ tt
     (λ active at.
-    either (Fits queues.objects timeout.Check) (nat_lt active.object.size (length payload.bytes)) _ _ tt
-    (either (Fits queues.objects timeout.Check) (nat_lt (length active.object.messages) active.object.depth) _ _ tt tt))
+    either (Suits false queues.objects timeout.Check) (nat_lt active.object.size (length payload.bytes)) _ _ tt
+    (either (Suits false queues.objects timeout.Check) (nat_lt (length active.object.messages) active.object.depth) _ _ tt tt))
 fits queues task (call.QueueGet id n wait) other = λ active at.
-    either (Fits queues.objects wait) (nat_lt n active.object.size) _ _ tt
+    either (Suits false queues.objects wait) (nat_lt n active.object.size) _ _ tt
     (first_fits queues id wait active active.object.messages at)
 fits queues task (call.QueueInfo id) other = λ active at. tt
+fits queues task (call.Hold id) other = refl
+fits queues task (call.Release id) other = refl
 fits queues task _ other = tt
 
 -- a put of a message that has bytes looks at its queue

@@ -26,7 +26,8 @@ use Rattle.osal_call.specs.declared.call.Call.{Call}
 use Rattle.osal_call.specs.declared.call.Call.TheVariants as call
 use Rattle.osal_call.specs.declared.call.Entry.{Entry}
 use Rattle.osal_call.specs.Call.{part_of}
-use Rattle.osal_machine.specs.Parts.{Queues, queue_step, part_step}
+use Rattle.osal_machine.specs.Parts.{Queues, part_step}
+use Rattle.osal_queue.specs.Queues.{queue_step}
 use Rattle.osal_machine.specs.Step.{MachineState, opening, part_in, in_machine, step}
 use Rattle.osal_machine.specs.History.{IsLegalFrom, after_entry, replay_from, replay}
 use Rattle.osal_laws.specs.QueueLaw.{put_by, got_from, is_this, brought_by, brought, given_by, given, is_queue_creation, is_delete_of, NoneRemoves, QueuesKeepTheirOrder}

@@ -27,7 +27,7 @@ use Rattle.osal_queue.specs.Queues.{QueueState, queue_at, in_queues, with_queue,
 use Rattle.osal_call.specs.declared.call.Call.{Call}
 use Rattle.osal_call.specs.declared.call.Call.TheVariants as call
 use Rattle.osal_call.specs.Call.{part_of, part_of_wait}
-use Rattle.osal_machine.specs.Parts.{queue_step}
+use Rattle.osal_queue.specs.Queues.{queue_step}
 use Rattle.osal_laws.specs.QueueLaw.{put_by, got_from, is_this, is_delete_of}
 use Rattle.osal_object.proofs.Moves.{either}
 

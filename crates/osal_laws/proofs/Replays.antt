@@ -1,20 +1,20 @@
 -- Every history moves the objects of each part, and the laws of objects hold of it.
-use Rattle.std.proofs.Common.{◌≡◌, ℕ, Bool, true, false, cond, List, [], ◌∷◌, ◌++◌, inl, inr, refl, ap, sym, subst, ◌∙◌}
-use Rattle.std.proofs.lemmas.Bool.{cases_eq, both_ways}
+use Rattle.std.proofs.Common.{◌≡◌, ℕ, Bool, true, false, cond, List, [], ◌∷◌, ◌++◌, refl, ap, sym, subst, ◌∙◌}
+use Rattle.std.proofs.lemmas.Bool.{both_ways}
 use Rattle.osal_idtable.specs.Table.{active_at}
 use Rattle.osal_object.specs.Objects.{ObjectsState}
 use Rattle.osal_object.proofs.Activity.{held_objects_stay}
 use Rattle.osal_object.proofs.ActiveOnce.{not_active_again}
 use Rattle.osal_time.specs.Time.{is_timer}
 use Rattle.osal_call.specs.declared.call.Entry.{Entry}
-use Rattle.osal_call.specs.Call.{part_of, part_of_id}
+use Rattle.osal_call.specs.Call.{part_of_id}
 use Rattle.osal_machine.specs.Parts.{PartState, is_active_in}
 use Rattle.osal_machine.specs.Step.{MachineState, opening, part_in}
 use Rattle.osal_machine.specs.History.{after_entry, replay_from, replay}
 use Rattle.osal_laws.specs.Laws.{HeldObjectsAreKept, WrapCountRises, holds_in, wraps_in}
 use Rattle.osal_object.specs.ObjectLaws.{holds_of}
 use Rattle.osal_laws.proofs.Histories.{replay_push, replay_split}
-use Rattle.osal_laws.proofs.Own.{own_at, other_kept, by_number}
+use Rattle.osal_laws.proofs.Own.{after_part, by_number}
 use Rattle.osal_object.proofs.Moves.{IsMove, AreMoves, stays, none_moved, first_moved, is_there, gone_unheld, IsRise, Rises, active_again}
 use Rattle.osal_laws.proofs.PartMoves.{EachMoves, tasks_in, tasks_move, queues_in, queues_move, count_sems_in, count_sems_move, bin_sems_in, bin_sems_move, mutexes_in, mutexes_move, condvars_in, condvars_move, timebases_in, timebases_move, timers_in, timers_move}
 
@@ -24,14 +24,10 @@ module _ {T W : Type 0} (objects_in : PartState → ObjectsState T W) (each : Ea
   objects_of state = objects_in (part_in number state)
 
   -- an entry makes one move of them
-  entry_moves : (state : MachineState) (entry : Entry) → IsMove (objects_of state) (objects_of (after_entry state entry))
+  pub entry_moves : (state : MachineState) (entry : Entry) → IsMove (objects_of state) (objects_of (after_entry state entry))
   entry_moves state entry =
-      elim (cases_eq number (part_of entry.call)) [
-        | inl own ↦
-            subst (λ part. IsMove (objects_of state) (objects_in part)) (sym (own_at state entry.task entry.now entry.call number own)) (each (part_in number state) entry.task entry.now entry.call)
-        | inr other ↦
-            subst (λ part. IsMove (objects_of state) (objects_in part)) (sym (other_kept state entry.task entry.now entry.call number other)) (stays (objects_of state))
-      ]
+      after_part state entry.task entry.now entry.call number (λ part. IsMove (objects_of state) (objects_in part))
+      (stays (objects_of state)) (each (part_in number state) entry.task entry.now entry.call)
 
   -- any entries make moves of them
   pub replay_moves : (entries : List Entry) (state : MachineState) → AreMoves (objects_of state) (objects_of (replay_from state entries))

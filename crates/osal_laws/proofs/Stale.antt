@@ -1,5 +1,5 @@
 -- A call on an identifier that is not active is refused by that.
-use Rattle.std.proofs.Common.{◌≡◌, ℕ, Bool, true, false, Option, Some, None, is_some, refl, ap, sym, subst, ◌∙◌}
+use Rattle.std.proofs.Common.{◌≡◌, ℕ, Bool, false, refl, ap, sym, subst, ◌∙◌}
 use Rattle.std.proofs.lemmas.Bool.{true≢false}
 use Rattle.osal_base.specs.declared.status.Status.TheVariants as status
 use Rattle.osal_base.specs.declared.time.Moment.{Moment}

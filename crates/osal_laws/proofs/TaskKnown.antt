@@ -13,21 +13,22 @@ use Rattle.osal_object.specs.Waiting.{abandon_step}
 use Rattle.osal_object.specs.Objects.{ObjectsState}
 use Rattle.osal_object.specs.Outcomes.{Outcome, NoWait, looks, ended_as, given_up}
 use Rattle.osal_object.proofs.Moves.{either}
-use Rattle.osal_object.proofs.Carried.{Fits, FitsEnding, abandon_is}
+use Rattle.osal_object.proofs.Carried.{FitsEnding, abandon_is}
 use Rattle.osal_task.specs.declared.part.Task.{Task}
 use Rattle.osal_task.specs.Tasks.{TaskState, in_tasks, done}
 use Rattle.osal_task.specs.Delays.{delay_ending}
 use Rattle.osal_call.specs.declared.call.Call.{Call}
 use Rattle.osal_call.specs.declared.call.Call.TheVariants as call
 use Rattle.osal_call.specs.Signature.{part_of, subject_of, is_refused_before, timeout_of, ends_wait}
-use Rattle.osal_machine.specs.Parts.{task_call, task_step}
+use Rattle.osal_task.specs.Calls.{task_call, task_step}
 use Rattle.osal_laws.proofs.Known.{Known, seen_as}
+use Rattle.osal_laws.proofs.Suits.{is_holding, Suits}
 
 -- what an outcome must be that fits a call that may not wait
 abbrev Passes : TaskState → Outcome Task (Unit {0}) → Type 0
-Passes tasks outcome = Fits tasks.objects timeout.Check outcome
+Passes tasks outcome = Suits false tasks.objects timeout.Check outcome
 
-fits : (tasks : TaskState) (task : ℕ) (made : Call) → ends_wait made ≡ false → Fits tasks.objects (timeout_of made) (task_call task made)
+fits : (tasks : TaskState) (task : ℕ) (made : Call) → ends_wait made ≡ false → Suits (is_holding made) tasks.objects (timeout_of made) (task_call task made)
 fits tasks task (call.TaskCreate name body stack priority) other =
     either (Passes tasks) (nat_lt lowest_priority priority) _ _ tt tt
 fits tasks task (call.TaskDelete id) other = λ active at.
@@ -37,11 +38,12 @@ fits tasks task (call.TaskSetPriority id priority) other =
     either (Passes tasks) (nat_lt lowest_priority priority) _ _ tt (λ active at. tt)
 fits tasks task (call.TaskInfo id) other = λ active at. tt
 fits tasks task (call.TaskDelay ms) other =
-    cond_both (ms == 0) _ _ (Fits tasks.objects (timeout.Ms ms)) (λ none. tt) (λ some. (refl, some, tt))
+    cond_both (ms == 0) _ _ (Suits false tasks.objects (timeout.Ms ms)) (λ none. tt) (λ some. (refl, some, tt))
 fits tasks task call.Checkpoint other = λ active at.
     either (Passes tasks) active.object.marked _ _ tt tt
 fits tasks task (call.Hold id) other = λ active at.
-    either (Passes tasks) active.object.marked _ _ tt tt
+    either (Suits true tasks.objects timeout.Check) active.object.marked _ _ tt refl
+fits tasks task (call.Release id) other = refl
 fits tasks task _ other = tt
 
 looks_at : (task : ℕ) (made : Call) (id : ℕ) → part_of made ≡ 0 → subject_of task made ≡ Some id → is_refused_before made ≡ false → looks (task_call task made) ≡ Some id

@@ -22,8 +22,8 @@ use Rattle.osal_task.specs.Delays.{delay_ending, wait_abandon_step}
 use Rattle.osal_call.specs.declared.call.Call.{Call}
 use Rattle.osal_call.specs.declared.call.Call.TheVariants as call
 use Rattle.osal_call.specs.Signature.{timeout_of, ends_wait}
-use Rattle.osal_machine.specs.Parts.{task_call, task_step}
-use Rattle.osal_laws.proofs.Known.{of_call}
+use Rattle.osal_task.specs.Calls.{task_call, task_step}
+use Rattle.osal_laws.proofs.Known.{known_fits, of_call}
 use Rattle.osal_laws.proofs.TaskKnown.{tasks_known}
 
 -- whether a call may make a task active, or remove one
@@ -110,7 +110,7 @@ module _ (tasks : TaskState) (task : ℕ) (now : Moment) where
   call_alters : (made : Call) → ends_wait made ≡ false → moves_tasks made ≡ false → AreChanges tasks.objects (task_step tasks task now made).1.objects
   call_alters made other is =
       subst (λ (s : Replied × ObjectsState Task (Unit {0})). AreChanges tasks.objects s.1) (sym (tasks_known.calls tasks task now made other))
-      (outcome_alters tasks.objects task now (timeout_of made) (task_call task made) (still task made is) (tasks_known.fits tasks task made other))
+      (outcome_alters tasks.objects task now (timeout_of made) (task_call task made) (still task made is) (known_fits tasks_known tasks task now made other))
 
   -- a call that creates no task and removes none leaves the same tasks active
   pub task_alike : (made : Call) → moves_tasks made ≡ false → Alike tasks.objects.table (task_step tasks task now made).1.objects.table

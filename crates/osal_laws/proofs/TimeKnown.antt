@@ -6,15 +6,15 @@ use Rattle.osal_base.specs.declared.time.Moment.{Moment}
 use Rattle.osal_base.specs.declared.time.Timeout.TheVariants as timeout
 use Rattle.osal_base.specs.Name.{name_fault}
 use Rattle.osal_base.specs.Reply.{Replied, refusal, is_waits, is_refusal}
-use Rattle.osal_idtable.specs.Table.{Active, active_at}
+use Rattle.osal_idtable.specs.Table.{Active}
 use Rattle.osal_idtable.specs.Faults.{unless}
 use Rattle.osal_object.specs.Objects.{ObjectsState}
-use Rattle.osal_object.specs.Outcomes.{Write, Outcome, Named, Hold, Release, looks, carried_out}
+use Rattle.osal_object.specs.Outcomes.{Named, Hold, Release, looks, carried_out}
 use Rattle.osal_object.specs.Across.{across}
 use Rattle.osal_object.proofs.Moves.{IsMove, either, stays}
 use Rattle.osal_object.proofs.Refusals.{Leaves, fails, same, within}
 use Rattle.osal_object.proofs.WaitSteps.{goes_on}
-use Rattle.osal_object.proofs.Carried.{Fits, outcome_moves, outcome_keeps, outcome_waits, gone_refused}
+use Rattle.osal_object.proofs.Carried.{outcome_moves, outcome_keeps, outcome_waits, gone_refused}
 use Rattle.osal_object.proofs.Across.{across_moves, across_keeps}
 use Rattle.osal_time.specs.Timebase.{Timebase, sum_limit}
 use Rattle.osal_call.specs.Firing.{timer_limit}
@@ -25,57 +25,59 @@ use Rattle.osal_call.specs.declared.call.Call.{Call}
 use Rattle.osal_call.specs.declared.call.Call.TheVariants as call
 use Rattle.osal_call.specs.Signature.{signature, is_refused_before}
 use Rattle.osal_call.specs.Signature as what
-use Rattle.osal_machine.specs.Parts.{time_call, time_step}
+use Rattle.osal_time.specs.Calls.{time_call, time_step}
+use Rattle.osal_laws.proofs.Suits.{is_holding, Suits, suits_fit}
 use Rattle.osal_laws.proofs.Known.{none_of}
 
 module _ (time : TimeState) (task : ℕ) (now : Moment) where
-  -- the outcome of a call does not wait
-  abbrev FitsCall : TimeCall → Type 0
-  FitsCall (OnTimebases outcome) = Fits time.timebases timeout.Check outcome
-  FitsCall (OnTimers outcome) = Fits time.timers timeout.Check outcome
-  FitsCall (OnBoth outcome writes) = Fits time.timers timeout.Check outcome
-  FitsCall (Advance to) = Unit {0}
+  -- the outcome of a call does not wait, and holds or releases only where the call does
+  abbrev pub SuitsCall : Bool → TimeCall → Type 0
+  SuitsCall holding (OnTimebases outcome) = Suits holding time.timebases timeout.Check outcome
+  SuitsCall holding (OnTimers outcome) = Suits holding time.timers timeout.Check outcome
+  SuitsCall holding (OnBoth outcome writes) = Suits holding time.timers timeout.Check outcome
+  SuitsCall holding (Advance to) = Unit {0}
 
   -- a timer that is made for a timebase
-  made_fits : (name : List ℕ) (id handler : ℕ) (found : Option (Active Timebase)) → Fits time.timers timeout.Check (made_for name id handler found)
+  made_fits : (name : List ℕ) (id handler : ℕ) (found : Option (Active Timebase)) → Suits false time.timers timeout.Check (made_for name id handler found)
   made_fits name id handler None = tt
   made_fits name id handler (Some active) =
-      either (Fits time.timers timeout.Check) (nat_lt (length active.object.timers) timer_limit) _ _ tt tt
+      either (Suits false time.timers timeout.Check) (nat_lt (length active.object.timers) timer_limit) _ _ tt tt
 
-  fits : (made : Call) → FitsCall (time_call time made)
+  -- what each call of the part does, does not wait
+  pub fits : (made : Call) → SuitsCall (is_holding made) (time_call time made)
   fits (call.TimebaseTick id usecs) =
-      either (Fits time.timebases timeout.Check) (usecs == 0) _ _ tt
-      (λ active at. either (Fits time.timebases timeout.Check) (nat_lt sum_limit (active.object.sum + usecs)) _ _ tt tt)
+      either (Suits false time.timebases timeout.Check) (usecs == 0) _ _ tt
+      (λ active at. either (Suits false time.timebases timeout.Check) (nat_lt sum_limit (active.object.sum + usecs)) _ _ tt tt)
   fits (call.TimebaseFreeRun id) = λ active at. tt
   fits (call.TimebaseDelete id) = λ active at.
-      either (Fits time.timebases timeout.Check) (nat_lt 0 (length active.object.timers)) _ _ tt tt
+      either (Suits false time.timebases timeout.Check) (nat_lt 0 (length active.object.timers)) _ _ tt tt
   fits (call.TimerAdd name timebase handler) = made_fits name.bytes timebase handler (timebase_at time timebase)
   fits (call.TimerSet id start interval) =
-      either (Fits time.timers timeout.Check) ((start == 0) && (interval == 0)) _ _ tt (λ active at. tt)
+      either (Suits false time.timers timeout.Check) ((start == 0) && (interval == 0)) _ _ tt (λ active at. tt)
   fits (call.TimerInfo id) = λ active at. tt
-  fits (call.Hold id) = either FitsCall (is_timer id) _ _ tt tt
-  fits (call.Release id) = either FitsCall (is_timer id) _ _ tt tt
+  fits (call.Hold id) = either (SuitsCall true) (is_timer id) _ _ refl refl
+  fits (call.Release id) = either (SuitsCall true) (is_timer id) _ _ refl refl
   fits _ = tt
 
   -- a step of the part makes one move of the timebases and one of the timers
   abbrev Moves : Replied × TimeState → Type 0
   Moves stepped = IsMove time.timebases stepped.1.timebases × IsMove time.timers stepped.1.timers
 
-  done_moves : (made : TimeCall) → FitsCall made → Moves (done time task now made)
-  done_moves (OnTimebases outcome) fits =
-      (outcome_moves time.timebases task now timeout.Check outcome fits, stays time.timers)
-  done_moves (OnTimers outcome) fits =
-      (stays time.timebases, outcome_moves time.timers task now timeout.Check outcome fits)
-  done_moves (OnBoth outcome writes) fits = (
+  done_moves : (holding : Bool) (made : TimeCall) → SuitsCall holding made → Moves (done time task now made)
+  done_moves holding (OnTimebases outcome) fits =
+      (outcome_moves time.timebases task now timeout.Check outcome (suits_fit holding time.timebases timeout.Check outcome fits), stays time.timers)
+  done_moves holding (OnTimers outcome) fits =
+      (stays time.timebases, outcome_moves time.timers task now timeout.Check outcome (suits_fit holding time.timers timeout.Check outcome fits))
+  done_moves holding (OnBoth outcome writes) fits = (
     across_moves (carried_out time.timers task now outcome).0 writes time.timebases,
-    outcome_moves time.timers task now timeout.Check outcome fits,
+    outcome_moves time.timers task now timeout.Check outcome (suits_fit holding time.timers timeout.Check outcome fits),
   )
-  done_moves (Advance to) fits =
+  done_moves holding (Advance to) fits =
       either Moves (nat_lt time.moment.ms to) _ _ (stays time.timebases, stays time.timers) (stays time.timebases, stays time.timers)
 
   -- a call of the part makes one move of each
   pub time_moves : (made : Call) → Moves (time_step time task now made)
-  time_moves made = done_moves (time_call time made) (fits made)
+  time_moves made = done_moves (is_holding made) (time_call time made) (fits made)
 
   -- a refused step leaves the part
   abbrev Keeps : Replied × TimeState → Type 0
@@ -107,17 +109,17 @@ module _ (time : TimeState) (task : ℕ) (now : Moment) where
   abbrev Answers : Replied × TimeState → Type 0
   Answers stepped = is_waits stepped.0.answer ≡ false
 
-  done_answers : (made : TimeCall) → FitsCall made → Answers (done time task now made)
-  done_answers (OnTimebases outcome) fits =
-      (goes_on refl (outcome_waits time.timebases task now timeout.Check outcome fits)).0
-  done_answers (OnTimers outcome) fits = (goes_on refl (outcome_waits time.timers task now timeout.Check outcome fits)).0
-  done_answers (OnBoth outcome writes) fits =
-      (goes_on refl (outcome_waits time.timers task now timeout.Check outcome fits)).0
-  done_answers (Advance to) fits = either Answers (nat_lt time.moment.ms to) _ _ refl refl
+  done_answers : (holding : Bool) (made : TimeCall) → SuitsCall holding made → Answers (done time task now made)
+  done_answers holding (OnTimebases outcome) fits =
+      (goes_on refl (outcome_waits time.timebases task now timeout.Check outcome (suits_fit holding time.timebases timeout.Check outcome fits))).0
+  done_answers holding (OnTimers outcome) fits = (goes_on refl (outcome_waits time.timers task now timeout.Check outcome (suits_fit holding time.timers timeout.Check outcome fits))).0
+  done_answers holding (OnBoth outcome writes) fits =
+      (goes_on refl (outcome_waits time.timers task now timeout.Check outcome (suits_fit holding time.timers timeout.Check outcome fits))).0
+  done_answers holding (Advance to) fits = either Answers (nat_lt time.moment.ms to) _ _ refl refl
 
   -- a call of the part does not answer that it waits
   pub time_answers : (made : Call) → Answers (time_step time task now made)
-  time_answers made = done_answers (time_call time made) (fits made)
+  time_answers made = done_answers (is_holding made) (time_call time made) (fits made)
 
   -- the identifier of a timebase, and that of a timer, that a call looks at
   abbrev looks_for_timebase : TimeCall → Option ℕ

@@ -1,10 +1,12 @@
 -- What holds of every history of the machine.
-use Rattle.std.specs.Prelude.{◌≡◌, ◌≢◌, ◌==◌, ◌&&◌, ◌<◌, ◌≤◌, ◌-◌, ◌*◌, ◌^◌, ◌++◌, ℕ, List, [], ◌∷◌, Bool, true, false, not, Option, Some, None, is_some, length, min, nat_lt, pos, if◌then◌else◌}
+use Rattle.std.specs.Prelude.{◌≡◌, ◌≢◌, ◌<◌, ◌≤◌, ◌-◌, ◌*◌, ◌^◌, ◌++◌, ℕ, List, [], ◌∷◌, Bool, true, false, Some, None, is_some, length, min, int_lt, pos, if◌then◌else◌}
 use Rattle.osal_base.specs.declared.limits.Limits.{Limits}
+use Rattle.osal_base.specs.declared.reply.Answer.{Answer}
+use Rattle.osal_base.specs.declared.reply.Answer.TheVariants as answer
 use Rattle.osal_base.specs.declared.status.Status.TheVariants as status
 use Rattle.osal_base.specs.declared.time.Moment.{Moment}
 use Rattle.osal_base.specs.Limits.{Fits}
-use Rattle.osal_base.specs.Reply.{reply_of, refusal, deleted, is_waits, is_refusal}
+use Rattle.osal_base.specs.Reply.{reply_of, refusal, deleted, is_waits}
 use Rattle.osal_idtable.specs.Table.{Active}
 use Rattle.osal_idtable.specs.WellFormed.{IsWellFormed}
 use Rattle.osal_object.specs.ObjectLaws.{IsCounted, holds_of}
@@ -21,7 +23,7 @@ use Rattle.osal_time.specs.Attachment.{AreAttached}
 use Rattle.osal_call.specs.declared.call.Call.{Call}
 use Rattle.osal_call.specs.declared.call.Call.TheVariants as call
 use Rattle.osal_call.specs.declared.call.Entry.{Entry}
-use Rattle.osal_call.specs.Signature.{Subject, Table, signature, part_of, part_of_id, is_refused_before, is_wait_end}
+use Rattle.osal_call.specs.Signature.{Subject, Table, signature, subject_of, part_of, part_of_id, is_refused_before, is_wait_end}
 use Rattle.osal_call.specs.Signature as what
 use Rattle.osal_machine.specs.Parts.{PartState, Tasks, Queues, CountSems, BinSems, Mutexes, Condvars, Time, Absent}
 use Rattle.osal_machine.specs.Step.{MachineState, part_in, step, is_active}
@@ -52,6 +54,18 @@ StaleIdentifiersAreRefused =
     (limits : Limits) (before : List Entry) (entry : Entry)
     → IsLegal limits (before ++ entry ∷ [])
     → is_there (replay limits before) entry.task (signature entry.call).subject ≡ false
+    → is_refused_before entry.call ≡ false
+    → reply_of entry.reply ≡ refusal status.ErrInvalidId
+
+-- an entry on an identifier that is not active, by the type that it has, is refused by that, where nothing refuses it
+-- before
+abbrev pub InactiveIdentifiersAreRefused : Type 0
+InactiveIdentifiersAreRefused =
+    (limits : Limits) (before : List Entry) (entry : Entry) (id : ℕ)
+    → Fits limits
+    → IsLegal limits (before ++ entry ∷ [])
+    → subject_of entry.task entry.call ≡ Some id
+    → is_active (replay limits before) id ≡ false
     → is_refused_before entry.call ≡ false
     → reply_of entry.reply ≡ refusal status.ErrInvalidId
 
@@ -103,12 +117,18 @@ HeldObjectsAreKept =
     → is_active (replay limits (before ++ entry ∷ [])) id ≡ false
     → holds_in (part_in (part_of_id id) (replay limits before)) id ≡ 0
 
--- a refused call changes nothing; the end of a wait is no such call, since a wait that is due ends with a code
+-- whether an answer is a code below 0
+abbrev pub is_below_zero : Answer → Bool
+is_below_zero (answer.Code code) = int_lt code (pos 0)
+is_below_zero other = false
+
+-- a call that answers a code below 0 changes nothing; the end of a wait is no such call, since a wait that is due ends
+-- with a code
 abbrev pub RefusedCallsChangeNothing : Type 0
 RefusedCallsChangeNothing =
     (state : MachineState) (task : ℕ) (now : Moment) (made : Call)
     → is_wait_end made ≡ false
-    → is_refusal (step state task now made).0.answer ≡ true
+    → is_below_zero (step state task now made).0.answer ≡ true
     → (step state task now made).1 ≡ state
 
 -- the end of a wait that waits on changes nothing

@@ -1,10 +1,24 @@
 //! What holds of every history of the machine, as clauses of functions that do nothing.
 ghost use Rattle.osal_laws.specs.QueueLaw.{QueuesKeepTheirOrder};
-ghost use Rattle.osal_laws.specs.Laws.{StaleIdentifiersAreRefused, WrapCountRises, HeldObjectsAreKept, RefusedCallsChangeNothing, EndsThatWaitChangeNothing, EndsOfNoWaitChangeNothing, ObjectsAreCounted, TablesAreWellFormed, CallsChangeTheirPart, PartsReplayAlone, MarkedTasksAreUnheld, DeletedTasksAreGone, TimersAreAttached, TicksFireFew};
+ghost use Rattle.osal_laws.specs.Steps.{StepsTurnOne, EndedWaitsAreOver};
+ghost use Rattle.osal_laws.specs.Values.{ValuesAreBounded};
+ghost use Rattle.osal_laws.specs.Holds.{HoldsAreThoseMade};
+ghost use Rattle.osal_laws.specs.Laws.{InactiveIdentifiersAreRefused, StaleIdentifiersAreRefused, WrapCountRises, HeldObjectsAreKept, RefusedCallsChangeNothing, EndsThatWaitChangeNothing, EndsOfNoWaitChangeNothing, ObjectsAreCounted, TablesAreWellFormed, CallsChangeTheirPart, PartsReplayAlone, MarkedTasksAreUnheld, DeletedTasksAreGone, TimersAreAttached, TicksFireFew};
 
 /// An entry on an identifier that is not active is refused by that, where nothing refuses it before.
 pub fn stale_identifiers_are_refused()
     ensures { StaleIdentifiersAreRefused }
+{}
+
+/// An entry on an identifier that is not active is refused by that, whatever table its call is on, where nothing refuses
+/// it before.
+pub fn inactive_identifiers_are_refused()
+    ensures { InactiveIdentifiersAreRefused }
+{}
+
+/// A step makes at most one identifier active or not active.
+pub fn steps_turn_one()
+    ensures { StepsTurnOne }
 {}
 
 /// Between two entries that make the same identifier active the wrap count of its type rises.
@@ -17,7 +31,7 @@ pub fn held_objects_are_kept()
     ensures { HeldObjectsAreKept }
 {}
 
-/// A refused call changes nothing.
+/// A call that answers a code below 0 changes nothing.
 pub fn refused_calls_change_nothing()
     ensures { RefusedCallsChangeNothing }
 {}
@@ -32,9 +46,26 @@ pub fn ends_of_no_wait_change_nothing()
     ensures { EndsOfNoWaitChangeNothing }
 {}
 
+/// The end of an open wait that does not wait on removes its record and gives its holds back, whatever it answers.
+pub fn ended_waits_are_over()
+    ensures { EndedWaitsAreOver }
+{}
+
+/// Semaphores count to 32,767 at most, locks are 1 to 32,767 deep, priorities at most 255, and queues have at most their
+/// depth of messages, each of 1 byte to their size.
+pub fn values_are_bounded()
+    ensures { ValuesAreBounded }
+{}
+
 /// The holds of an object are those of callers and the open waits that stand on it.
 pub fn objects_are_counted()
     ensures { ObjectsAreCounted }
+{}
+
+/// Since an object became active its holds are the accepted holds less the accepted releases, and the open waits that
+/// stand on it.
+pub fn holds_are_those_made()
+    ensures { HoldsAreThoseMade }
 {}
 
 /// The tables of the parts are well formed.

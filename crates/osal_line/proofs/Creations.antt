@@ -1,27 +1,23 @@
 -- The call that a line makes names bodies that later lines declare.
-use Rattle.std.proofs.Common.{◌≡◌, ◌≤◌, ◌<◌, ◌+◌, ◌^◌, ℕ, List, [], ◌∷◌, false, Option, Some, None, option_map, option_and_then, refl, arith}
+use Rattle.std.proofs.Common.{◌≡◌, ◌≤◌, ◌<◌, ◌+◌, ◌^◌, ℕ, List, [], ◌∷◌, false, Option, Some, None, option_map, option_and_then, refl, ap, ◌∙◌, arith}
+use Rattle.osal_base.specs.declared.time.Timeout.{Timeout}
 use Rattle.std.proofs.lemmas.Bool.{cond_both}
+use Rattle.osal_call.specs.declared.word.CallWord.{CallWord}
+use Rattle.osal_call.specs.declared.word.CallWord.TheVariants as word
 use Rattle.osal_line.specs.declared.kind.BodyKind.{BodyKind}
 use Rattle.osal_line.specs.declared.kind.BodyKind.TheVariants as kind
+use Rattle.osal_line.specs.declared.line.ScriptCall.{ScriptCall}
 use Rattle.osal_line.specs.declared.line.ScriptCall.TheVariants as script
-use Rattle.osal_line.specs.declared.tasks.TaskCall.{TaskCall}
-use Rattle.osal_line.specs.declared.tasks.TaskCall.TheVariants as task
-use Rattle.osal_line.specs.declared.tasks.TaskWord.{TaskWord}
-use Rattle.osal_line.specs.declared.tasks.TaskWord.TheVariants as task_word
-use Rattle.osal_line.specs.declared.grammar.CallWord.{CallWord}
-use Rattle.osal_line.specs.declared.grammar.CallWord.TheVariants as word
-use Rattle.osal_line.specs.Between.{TaskNamesBetween, NamesBetween}
+use Rattle.osal_line.specs.Bare.{is_task_creation}
+use Rattle.osal_line.specs.Between.{NamesBetween}
+use Rattle.osal_line.specs.Calls.{word_of}
+use Rattle.osal_line.specs.Payload.{payload_of}
 use Rattle.osal_line.specs.Values.{is_body_name, number_below}
-use Rattle.osal_line.specs.Registers.{Registers, register_at, body_number}
-use Rattle.osal_line.specs.Arguments.{as_call, only_id, named_at, only_name}
-use Rattle.osal_line.specs.Tasks as tasks
-use Rattle.osal_line.specs.Queues.{queue_of_words}
-use Rattle.osal_line.specs.Counting.{count_sem_of_words}
-use Rattle.osal_line.specs.Binary.{bin_sem_of_words}
-use Rattle.osal_line.specs.Mutexes.{mutex_of_words}
-use Rattle.osal_line.specs.Condvars.{condvar_of_words}
-use Rattle.osal_line.specs.Timebases.{timebase_of_words}
-use Rattle.osal_line.specs.Timers.{timer_of_words}
+use Rattle.osal_line.specs.Registers.{Registers, register_at, body_at, body_number}
+use Rattle.osal_line.specs.Arguments.{as_call, only_id, named_at, only_name, id_and_wait, name_and_number, id_and_number, numbers_of}
+use Rattle.osal_line.specs.Tasks.{without_register, task_create_of, task_exit_of, task_delay_of}
+use Rattle.osal_line.specs.Queues.{queue_create_of, queue_put_of, room_of, queue_get_of}
+use Rattle.osal_line.specs.Timers.{timer_add_of, timer_set_of}
 use Rattle.osal_line.specs.Grammar.{call_of_words}
 
 -- later lines declare bodies of the numbers from one on and below another
@@ -42,25 +38,100 @@ pub plain_made : {A C : Type 0} (Well : C → Type 0) (make : A → C) → ((a :
 plain_made Well make plain None = tt
 plain_made Well make plain (Some read) = λ told. plain read.0
 
--- a call on a kind of object, as a line's call
-pub as_line : {A C : Type 0} (Well : C → Type 0) (make : A → C) (read : Option (A × Registers)) → MakesWell (λ a. Well (make a)) read → MakesWell Well (as_call make read)
-as_line Well make None well = tt
-as_line Well make (Some read) well = well
+module _ {A : Type 0} (Well : ScriptCall → Type 0) where
+  -- what holds of a call that is read holds of each whose arguments are there
+  given : (o : Option A) (f : A → Option (ScriptCall × Registers)) → ((a : A) → MakesWell Well (f a)) → MakesWell Well (option_and_then f o)
+  given o f some = bound (MakesWell Well) o f tt some
 
--- a change of priority, whose arguments do not matter
-pub priority_made : (Well : TaskCall → Type 0) → ((id rank : ℕ) → Well (task.SetPriority id rank)) → (words : List (List ℕ)) (registers : Registers) → MakesWell Well (tasks.priority_of_words words registers)
-priority_made Well plain [] registers = tt
-priority_made Well plain (id ∷ []) registers = tt
-priority_made Well plain (id ∷ priority ∷ []) registers =
-    let P : Option (TaskCall × Registers) → Type 0 = MakesWell Well in
-    bound P (register_at registers id) _ tt (λ named. bound P (number_below (2 ^ 32) priority) _ tt (λ rank e. plain named.0 rank))
-priority_made Well plain (id ∷ priority ∷ another ∷ words) registers = tt
+module _ (Well : ScriptCall → Type 0) where
+  exit_made : (words : List (List ℕ)) (registers : Registers) → Well script.TaskExit → MakesWell Well (without_register registers (task_exit_of words))
+  exit_made [] registers well = λ told. well
+  exit_made (another ∷ words) registers well = tt
+
+  delay_found : (ms : Option ℕ) (registers : Registers) → ((n : ℕ) → Well (script.TaskDelay n)) → MakesWell Well (without_register registers (option_map (λ n. script.TaskDelay n) ms))
+  delay_found None registers well = tt
+  delay_found (Some n) registers well = λ told. well n
+
+  delay_made : (words : List (List ℕ)) (registers : Registers) → ((n : ℕ) → Well (script.TaskDelay n)) → MakesWell Well (without_register registers (task_delay_of words))
+  delay_made [] registers well = tt
+  delay_made (ms ∷ []) registers well = delay_found (number_below (2 ^ 32) ms) registers well
+  delay_made (ms ∷ another ∷ words) registers well = tt
+
+  queue_made : (words : List (List ℕ)) (registers : Registers) → ((register : ℕ) (name : List ℕ) (depth size : ℕ) → Well (script.QueueCreate register name depth size)) → MakesWell Well (queue_create_of words registers)
+  queue_made [] registers well = tt
+  queue_made (a ∷ []) registers well = tt
+  queue_made (a ∷ b ∷ []) registers well = tt
+  queue_made (a ∷ b ∷ c ∷ []) registers well = tt
+  queue_made (register ∷ name ∷ depth ∷ size ∷ []) registers well =
+      given Well (named_at registers register name) _ (λ named.
+      given Well (numbers_of depth size) _ (λ sizes told. well named.0.0 named.0.1 sizes.0 sizes.1))
+  queue_made (a ∷ b ∷ c ∷ d ∷ e ∷ words) registers well = tt
+
+  put_made : (words : List (List ℕ)) (registers : Registers) → ((id : ℕ) (payload : List ℕ) → Well (script.QueuePut id payload)) → MakesWell Well (queue_put_of words registers)
+  put_made [] registers well = tt
+  put_made (id ∷ words) registers well =
+      given Well (register_at registers id) _ (λ named.
+      given Well (payload_of words) _ (λ payload told. well named.0 payload))
+
+  get_made : (words : List (List ℕ)) (registers : Registers) → ((id n : ℕ) (wait : Timeout) → Well (script.QueueGet id n wait)) → MakesWell Well (queue_get_of words registers)
+  get_made [] registers well = tt
+  get_made (a ∷ []) registers well = tt
+  get_made (a ∷ b ∷ []) registers well = tt
+  get_made (id ∷ room ∷ wait ∷ []) registers well =
+      given Well (register_at registers id) _ (λ named.
+      given Well (room_of room wait) _ (λ how told. well named.0 how.0 how.1))
+  get_made (a ∷ b ∷ c ∷ d ∷ words) registers well = tt
+
+  add_made : (later : List ℕ → Option ℕ) (words : List (List ℕ)) (registers : Registers) → ((register : ℕ) (name : List ℕ) (timebase handler : ℕ) → Well (script.TimerAdd register name timebase handler)) → MakesWell Well (timer_add_of later words registers)
+  add_made later [] registers well = tt
+  add_made later (a ∷ []) registers well = tt
+  add_made later (a ∷ b ∷ []) registers well = tt
+  add_made later (a ∷ b ∷ c ∷ []) registers well = tt
+  add_made later (register ∷ name ∷ timebase ∷ handler ∷ []) registers well =
+      given Well (named_at registers register name) _ (λ named.
+      given Well (register_at named.1 timebase) _ (λ on.
+      given Well (body_at later on.1 handler) _ (λ runs told. well named.0.0 named.0.1 on.0 runs.0)))
+  add_made later (a ∷ b ∷ c ∷ d ∷ e ∷ words) registers well = tt
+
+  set_made : (words : List (List ℕ)) (registers : Registers) → ((id start interval : ℕ) → Well (script.TimerSet id start interval)) → MakesWell Well (timer_set_of words registers)
+  set_made [] registers well = tt
+  set_made (a ∷ []) registers well = tt
+  set_made (a ∷ b ∷ []) registers well = tt
+  set_made (id ∷ start ∷ interval ∷ []) registers well =
+      given Well (register_at registers id) _ (λ named.
+      given Well (numbers_of start interval) _ (λ usecs told. well named.0 usecs.0 usecs.1))
+  set_made (a ∷ b ∷ c ∷ d ∷ words) registers well = tt
+
+  -- what holds of a creation of a task with the body that it names, wherever one was declared
+  task_made : (later : List ℕ → Option ℕ) → ((register : ℕ) (name : List ℕ) (body stack priority : ℕ) → (named : List ℕ) → (registers : Registers) → body ≡ (body_number registers (later named)).0 → (body_number registers (later named)).1.undeclared ≡ false → Well (script.TaskCreate register name body stack priority)) → (words : List (List ℕ)) (registers : Registers) → MakesWell Well (task_create_of later words registers)
+  task_made later well [] registers = tt
+  task_made later well (a ∷ []) registers = tt
+  task_made later well (a ∷ b ∷ []) registers = tt
+  task_made later well (a ∷ b ∷ c ∷ []) registers = tt
+  task_made later well (a ∷ b ∷ c ∷ d ∷ []) registers = tt
+  task_made later well (a ∷ b ∷ c ∷ d ∷ e ∷ f ∷ words) registers = tt
+  task_made later well (register ∷ name ∷ body ∷ stack ∷ priority ∷ []) registers =
+      given Well (named_at registers register name) _ (λ named.
+      cond_both (is_body_name body) (Some (body_number named.1 (later body))) None (λ o. MakesWell Well (option_and_then (λ runs. option_and_then (λ sizes. Some (script.TaskCreate named.0.0 named.0.1 runs.0 sizes.0 sizes.1, runs.1)) (numbers_of stack priority)) o)) (λ e.
+      given Well (numbers_of stack priority) _ (λ sizes told. well named.0.0 named.0.1 (body_number named.1 (later body)).0 sizes.0 sizes.1 body named.1 refl told)) (λ e. tt))
+
+  -- what holds of each call of a word that does not create a task holds of the call that is read
+  pub others_made : (later : BodyKind → List ℕ → Option ℕ) (called : CallWord) → is_task_creation called ≡ false → ((made : ScriptCall) → word_of made ≡ called → Well made) → (words : List (List ℕ)) (registers : Registers) → MakesWell Well (call_of_words later called words registers)
+  others_made later (word.Object called) other well words registers = plain_made Well (λ id. script.Object called id) (λ id. well (script.Object called id) refl) (only_id words registers)
+  others_made later (word.Name called) other well words registers = plain_made Well (λ found. script.Name called found.0 found.1) (λ found. well (script.Name called found.0 found.1) refl) (only_name words registers)
+  others_made later (word.Wait called) other well words registers = plain_made Well (λ found. script.Wait called found.0 found.1) (λ found. well (script.Wait called found.0 found.1) refl) (id_and_wait words registers)
+  others_made later (word.Value called) other well words registers = plain_made Well (λ found. script.Value called found.0 found.1 found.2) (λ found. well (script.Value called found.0 found.1 found.2) refl) (name_and_number words registers)
+  others_made later (word.Number called) other well words registers = plain_made Well (λ found. script.Number called found.0 found.1) (λ found. well (script.Number called found.0 found.1) refl) (id_and_number words registers)
+  others_made later word.TaskCreate other well words registers = cc
+  others_made later word.TaskExit other well words registers = exit_made words registers (well script.TaskExit refl)
+  others_made later word.TaskDelay other well words registers = delay_made words registers (λ n. well (script.TaskDelay n) refl)
+  others_made later word.QueueCreate other well words registers = queue_made words registers (λ register name depth size. well (script.QueueCreate register name depth size) refl)
+  others_made later word.QueuePut other well words registers = put_made words registers (λ id payload. well (script.QueuePut id payload) refl)
+  others_made later word.QueueGet other well words registers = get_made words registers (λ id n wait. well (script.QueueGet id n wait) refl)
+  others_made later word.TimerAdd other well words registers = add_made (later kind.Handler) words registers (λ register name timebase handler. well (script.TimerAdd register name timebase handler) refl)
+  others_made later word.TimerSet other well words registers = set_made words registers (λ id start interval. well (script.TimerSet id start interval) refl)
 
 module _ (number total : ℕ) where
-  -- a call on a task
-  abbrev TaskNames : TaskCall → Type 0
-  TaskNames = TaskNamesBetween number total
-
   -- the body that a creation names
   body_names : (later : List ℕ → Option ℕ) → IsBetween (number + 1) total later → (registers : Registers) (name : List ℕ) (found : Option ℕ) → later name ≡ found → (body_number registers found).1.undeclared ≡ false → (number < (body_number registers found).0) × ((body_number registers found).0 < total)
   body_names later between registers name (Some body) found-is told =
@@ -68,50 +139,14 @@ module _ (number total : ℕ) where
       (omega (arith, within.0), within.1)
   body_names later between registers name None found-is told = cc
 
-  create_names : (later : List ℕ → Option ℕ) → IsBetween (number + 1) total later → (words : List (List ℕ)) (registers : Registers) → MakesWell TaskNames (tasks.create_of_words later words registers)
-  create_names later between [] registers = tt
-  create_names later between (a ∷ []) registers = tt
-  create_names later between (a ∷ b ∷ []) registers = tt
-  create_names later between (a ∷ b ∷ c ∷ []) registers = tt
-  create_names later between (a ∷ b ∷ c ∷ d ∷ []) registers = tt
-  create_names later between (a ∷ b ∷ c ∷ d ∷ e ∷ f ∷ words) registers = tt
-  create_names later between (register ∷ name ∷ body ∷ stack ∷ priority ∷ []) registers =
-      let P : Option (TaskCall × Registers) → Type 0 = MakesWell TaskNames in
-      bound P (named_at registers register name) _ tt (λ named.
-      cond_both (is_body_name body) (Some (body_number named.1 (later body))) None (λ o. P (option_and_then (λ runs. option_and_then (λ sizes. Some (task.Create named.0.0 named.0.1 runs.0 sizes.0 sizes.1, runs.1)) (tasks.sizes_of stack priority)) o)) (λ e.
-      bound P (tasks.sizes_of stack priority) _ tt (λ sizes told. body_names later between named.1 body (later body) refl told)) (λ e. tt))
-
-  exit_names : (words : List (List ℕ)) (registers : Registers) → MakesWell TaskNames (tasks.without_register registers (tasks.exit_of_words words))
-  exit_names [] registers = λ e. tt
-  exit_names (another ∷ words) registers = tt
-
-  delay_made : (ms : Option ℕ) (registers : Registers) → MakesWell TaskNames (tasks.without_register registers (option_map (λ n. task.Delay n) ms))
-  delay_made None registers = tt
-  delay_made (Some n) registers = λ e. tt
-
-  delay_names : (words : List (List ℕ)) (registers : Registers) → MakesWell TaskNames (tasks.without_register registers (tasks.delay_of_words words))
-  delay_names [] registers = tt
-  delay_names (ms ∷ []) registers = delay_made (number_below (2 ^ 32) ms) registers
-  delay_names (ms ∷ another ∷ words) registers = tt
-
-  task_names : (later : List ℕ → Option ℕ) → IsBetween (number + 1) total later → (call : TaskWord) (words : List (List ℕ)) (registers : Registers) → MakesWell TaskNames (tasks.task_of_words later call words registers)
-  task_names later between task_word.Create words registers = create_names later between words registers
-  task_names later between task_word.Exit words registers = exit_names words registers
-  task_names later between task_word.Delete words registers = plain_made TaskNames (λ id. task.Delete id) (λ id. tt) (only_id words registers)
-  task_names later between task_word.SetPriority words registers = priority_made TaskNames (λ id rank. tt) words registers
-  task_names later between task_word.Find words registers = plain_made TaskNames (λ found. task.Find found.0 found.1) (λ found. tt) (only_name words registers)
-  task_names later between task_word.Info words registers = plain_made TaskNames (λ id. task.Info id) (λ id. tt) (only_id words registers)
-  task_names later between task_word.Delay words registers = delay_names words registers
+  others_name : (made : ScriptCall) → is_task_creation (word_of made) ≡ false → NamesBetween number total made
+  others_name (script.TaskCreate register name body stack priority) other = cc
+  others_name _ other = tt
 
   -- the call of a line
-  pub call_names : (later : BodyKind → List ℕ → Option ℕ) → IsBetween (number + 1) total (later kind.Task) → (call : CallWord) (words : List (List ℕ)) (registers : Registers) → MakesWell (NamesBetween number total) (call_of_words later call words registers)
-  call_names later between (word.Task call) words registers = as_line (NamesBetween number total) (λ made. script.Task made) (tasks.task_of_words (later kind.Task) call words registers) (task_names (later kind.Task) between call words registers)
-  call_names later between (word.Queue call) words registers = plain_made (NamesBetween number total) (λ made. script.Queue made) (λ made. tt) (queue_of_words call words registers)
-  call_names later between (word.CountSem call) words registers = plain_made (NamesBetween number total) (λ made. script.CountSem made) (λ made. tt) (count_sem_of_words call words registers)
-  call_names later between (word.BinSem call) words registers = plain_made (NamesBetween number total) (λ made. script.BinSem made) (λ made. tt) (bin_sem_of_words call words registers)
-  call_names later between (word.Mutex call) words registers = plain_made (NamesBetween number total) (λ made. script.Mutex made) (λ made. tt) (mutex_of_words call words registers)
-  call_names later between (word.Condvar call) words registers = plain_made (NamesBetween number total) (λ made. script.Condvar made) (λ made. tt) (condvar_of_words call words registers)
-  call_names later between (word.Timebase call) words registers = plain_made (NamesBetween number total) (λ made. script.Timebase made) (λ made. tt) (timebase_of_words call words registers)
-  call_names later between (word.Timer call) words registers = plain_made (NamesBetween number total) (λ made. script.Timer made) (λ made. tt) (timer_of_words (later kind.Handler) call words registers)
-  call_names later between word.Hold words registers = plain_made (NamesBetween number total) (λ id. script.Hold id) (λ id. tt) (only_id words registers)
-  call_names later between word.Release words registers = plain_made (NamesBetween number total) (λ id. script.Release id) (λ id. tt) (only_id words registers)
+  pub call_names : (later : BodyKind → List ℕ → Option ℕ) → IsBetween (number + 1) total (later kind.Task) → (called : CallWord) (words : List (List ℕ)) (registers : Registers) → MakesWell (NamesBetween number total) (call_of_words later called words registers)
+  call_names later between word.TaskCreate words registers =
+      task_made (NamesBetween number total) (later kind.Task)
+      (λ register name body stack priority named from is told. rw is (body_names (later kind.Task) between from named (later kind.Task named) refl told)) words registers
+  call_names later between called words registers =
+      others_made (NamesBetween number total) later called refl (λ made is. others_name made (ap is_task_creation is)) words registers

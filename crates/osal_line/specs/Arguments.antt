@@ -1,4 +1,4 @@
--- The arguments that several kinds of call lines have, each with the registers behind it.
+-- The arguments of a call line by their shapes, each with the registers behind it.
 use Rattle.std.specs.Prelude.{◌^◌, List, [], ◌∷◌, ℕ, Option, Some, None, option_and_then}
 use Rattle.osal_base.specs.declared.time.Timeout.{Timeout}
 use Rattle.osal_line.specs.Values.{number_below, string_of, wait_of}
@@ -46,3 +46,18 @@ name_and_number (register ∷ name ∷ number ∷ []) registers = do
   value ← number_below (2 ^ 32) number
   Some ((named.0.0, named.0.1, value), named.1)
 name_and_number words registers = None
+
+-- an identifier and a number
+abbrev pub id_and_number : List (List ℕ) → Registers → Option ((ℕ × ℕ) × Registers)
+id_and_number (id ∷ number ∷ []) registers = do
+  named ← register_at registers id
+  value ← number_below (2 ^ 32) number
+  Some ((named.0, value), named.1)
+id_and_number words registers = None
+
+-- two numbers
+abbrev pub numbers_of : List ℕ → List ℕ → Option (ℕ × ℕ)
+numbers_of one another = do
+  first ← number_below (2 ^ 32) one
+  second ← number_below (2 ^ 32) another
+  Some (first, second)

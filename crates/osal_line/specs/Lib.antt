@@ -11,11 +11,6 @@ pub mod Arguments
 pub mod Payload
 pub mod Tasks
 pub mod Queues
-pub mod Counting
-pub mod Binary
-pub mod Mutexes
-pub mod Condvars
-pub mod Timebases
 pub mod Timers
 pub mod Grammar
 pub mod Expectation

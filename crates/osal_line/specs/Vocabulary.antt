@@ -1,39 +1,11 @@
 -- The words with which a line may begin.
-use Rattle.std.specs.Prelude.{List, [], ◌∷◌, ℕ, Option, Some, None, codes, option_map, if◌then◌else◌}
-use Rattle.std.specs.Option.{option_or}
+use Rattle.std.specs.Prelude.{List, [], ◌∷◌, ℕ, Option, Some, None, codes, if◌then◌else◌}
 use Rattle.std.specs.List.{list_any}
 use Rattle.std.specs.Str.{bytes_eq}
-use Rattle.osal_line.specs.declared.grammar.CallWord.{CallWord}
-use Rattle.osal_line.specs.declared.grammar.CallWord.TheVariants as word
+use Rattle.osal_call.specs.declared.word.CallWord.{CallWord}
+use Rattle.osal_call.specs.Signature.{call_word}
 use Rattle.osal_line.specs.declared.grammar.FirstWord.{FirstWord}
 use Rattle.osal_line.specs.declared.grammar.FirstWord.TheVariants as first
-use Rattle.osal_line.specs.Tasks.{task_word}
-use Rattle.osal_line.specs.Queues.{queue_word}
-use Rattle.osal_line.specs.Counting.{count_sem_word}
-use Rattle.osal_line.specs.Binary.{bin_sem_word}
-use Rattle.osal_line.specs.Mutexes.{mutex_word}
-use Rattle.osal_line.specs.Condvars.{condvar_word}
-use Rattle.osal_line.specs.Timebases.{timebase_word}
-use Rattle.osal_line.specs.Timers.{timer_word}
-
--- a call on some kind of object
-abbrev pub object_word : List ℕ → Option CallWord
-object_word text =
-    option_or (option_map (λ call. word.Task call) (task_word text))
-    (option_or (option_map (λ call. word.Queue call) (queue_word text))
-    (option_or (option_map (λ call. word.CountSem call) (count_sem_word text))
-    (option_or (option_map (λ call. word.BinSem call) (bin_sem_word text))
-    (option_or (option_map (λ call. word.Mutex call) (mutex_word text))
-    (option_or (option_map (λ call. word.Condvar call) (condvar_word text))
-    (option_or (option_map (λ call. word.Timebase call) (timebase_word text))
-    (option_map (λ call. word.Timer call) (timer_word text))))))))
-
--- the calls that are read
-abbrev pub call_word : List ℕ → Option CallWord
-call_word text =
-    if bytes_eq text (codes "hold") then Some word.Hold
-    else (if bytes_eq text (codes "release") then Some word.Release
-    else object_word text)
 
 -- the calls that the machine does not make yet
 abbrev pub unbuilt_words : List (List ℕ)

@@ -1,4 +1,4 @@
-//! The arguments that several kinds of call lines have.
+//! The arguments of call lines, by their shapes.
 ghost use Rattle.std.specs.Prelude.{◌≡◌, map, option_map, IfOk};
 ghost use Rattle.osal_line.specs.Arguments as arguments;
 
@@ -93,4 +93,31 @@ pub fn name_and_number(
         return Ok(None);
     };
     Ok(Some((register, name, number)))
+}
+
+/// An identifier and a number.
+pub fn id_and_number(
+    words: &[&[u8]],
+    registers: &mut Registers,
+) -> Result<Option<(Register, u32)>, OutOfMemory>
+    ensures { IfOk result (λ found. arguments.id_and_number (map (λ word. word.now) words.now) registers.old
+        ≡ option_map (λ both. (both, registers.new)) found) }
+{
+    if words.len() != 2 {
+        return Ok(None);
+    }
+    let Some(id) = registers.register_at(words[0])? else {
+        return Ok(None);
+    };
+    let Some(number) = number_of(words[1]) else {
+        return Ok(None);
+    };
+    Ok(Some((id, number)))
+}
+
+/// Two numbers.
+pub fn numbers_of(one: &[u8], another: &[u8]) -> Option<(u32, u32)>
+    ensures { result ≡ arguments.numbers_of one.now another.now }
+{
+    Some((number_of(one)?, number_of(another)?))
 }

@@ -4,34 +4,15 @@ ghost use Rattle.osal_line.specs.Places.{number_in};
 ghost use Rattle.osal_line.specs.Grammar as grammar;
 
 use crate::ScriptCall;
-use crate::arguments::only_id;
-use crate::binary::{BinSemWord, bin_sem_of_words};
-use crate::condvars::{CondvarWord, condvar_of_words};
-use crate::counting::{CountSemWord, count_sem_of_words};
+use crate::arguments::{id_and_number, id_and_wait, name_and_number, only_id, only_name};
 use crate::declarations::Declarations;
-use crate::mutexes::{MutexWord, mutex_of_words};
-use crate::queues::{QueueWord, queue_of_words};
+use crate::queues::{queue_create_of, queue_get_of, queue_put_of};
 use crate::registers::Registers;
-use crate::tasks::{TaskWord, task_of_words};
-use crate::timebases::{TimebaseWord, timebase_of_words};
-use crate::timers::{TimerWord, timer_of_words};
+use crate::tasks::{task_create_of, task_delay_of, task_exit_of};
+use crate::timers::{timer_add_of, timer_set_of};
 use osal_base::OutOfMemory;
+use osal_call::CallWord;
 use std::alloc::Global;
-
-/// The calls that a line may make.
-#[derive(Clone, Copy)]
-pub enum CallWord {
-    Task(TaskWord),
-    Queue(QueueWord),
-    CountSem(CountSemWord),
-    BinSem(BinSemWord),
-    Mutex(MutexWord),
-    Condvar(CondvarWord),
-    Timebase(TimebaseWord),
-    Timer(TimerWord),
-    Hold,
-    Release,
-}
 
 /// What a line is, by its first word.
 #[derive(Clone, Copy)]
@@ -66,39 +47,41 @@ pub fn call_of_words(
         ≡ option_map (λ call. (call, registers.new)) made) }
 {
     match call {
-        CallWord::Task(call) => {
-            let made = task_of_words(alloc, call, words, declared, begun, registers)?;
-            Ok(made.map(|made| ScriptCall::Task(made)))
+        CallWord::Object(word) => {
+            Ok(only_id(words, registers)?.map(|id| ScriptCall::Object { word, id }))
         }
-        CallWord::Queue(call) => {
-            let made = queue_of_words(alloc, call, words, registers)?;
-            Ok(made.map(|made| ScriptCall::Queue(made)))
+        CallWord::Name(word) => {
+            let found = only_name(alloc, words, registers)?;
+            Ok(found.map(|(register, name)| ScriptCall::Name {
+                word,
+                register,
+                name,
+            }))
         }
-        CallWord::CountSem(call) => {
-            let made = count_sem_of_words(alloc, call, words, registers)?;
-            Ok(made.map(|made| ScriptCall::CountSem(made)))
+        CallWord::Wait(word) => {
+            let found = id_and_wait(words, registers)?;
+            Ok(found.map(|(id, wait)| ScriptCall::Wait { word, id, wait }))
         }
-        CallWord::BinSem(call) => {
-            let made = bin_sem_of_words(alloc, call, words, registers)?;
-            Ok(made.map(|made| ScriptCall::BinSem(made)))
+        CallWord::Value(word) => {
+            let found = name_and_number(alloc, words, registers)?;
+            Ok(found.map(|(register, name, value)| ScriptCall::Value {
+                word,
+                register,
+                name,
+                value,
+            }))
         }
-        CallWord::Mutex(call) => {
-            let made = mutex_of_words(alloc, call, words, registers)?;
-            Ok(made.map(|made| ScriptCall::Mutex(made)))
+        CallWord::Number(word) => {
+            let found = id_and_number(words, registers)?;
+            Ok(found.map(|(id, number)| ScriptCall::Number { word, id, number }))
         }
-        CallWord::Condvar(call) => {
-            let made = condvar_of_words(alloc, call, words, registers)?;
-            Ok(made.map(|made| ScriptCall::Condvar(made)))
-        }
-        CallWord::Timebase(call) => {
-            let made = timebase_of_words(alloc, call, words, registers)?;
-            Ok(made.map(|made| ScriptCall::Timebase(made)))
-        }
-        CallWord::Timer(call) => {
-            let made = timer_of_words(alloc, call, words, declared, begun, registers)?;
-            Ok(made.map(|made| ScriptCall::Timer(made)))
-        }
-        CallWord::Hold => Ok(only_id(words, registers)?.map(|id| ScriptCall::Hold { id })),
-        CallWord::Release => Ok(only_id(words, registers)?.map(|id| ScriptCall::Release { id })),
+        CallWord::TaskCreate => task_create_of(alloc, words, declared, begun, registers),
+        CallWord::TaskExit => Ok(task_exit_of(words)),
+        CallWord::TaskDelay => Ok(task_delay_of(words)),
+        CallWord::QueueCreate => queue_create_of(alloc, words, registers),
+        CallWord::QueuePut => queue_put_of(alloc, words, registers),
+        CallWord::QueueGet => queue_get_of(words, registers),
+        CallWord::TimerAdd => timer_add_of(alloc, words, declared, begun, registers),
+        CallWord::TimerSet => timer_set_of(words, registers),
     }
 }

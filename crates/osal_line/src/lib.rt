@@ -2,44 +2,31 @@
 #![tactic(auto)]
 
 mod arguments;
-mod binary;
-mod condvars;
-mod counting;
 mod declarations;
 mod expectation;
 mod grammar;
 mod kind;
 mod line;
 mod literal;
-mod mutexes;
 mod payload;
 mod queues;
 mod register;
 mod registers;
 mod strings;
 mod tasks;
-mod timebases;
 mod timers;
 mod values;
 mod vocabulary;
 mod words;
 
-pub use binary::BinSemCall;
-pub use condvars::{CondvarCall, CondvarWord};
-pub use counting::CountSemCall;
 pub use declarations::Declarations;
 pub use expectation::{Expect, Value, arrow_place, expectation_of};
-pub use grammar::{CallWord, FirstWord, call_of_words};
+pub use grammar::{FirstWord, call_of_words};
 pub use kind::BodyKind;
 pub use line::{Line, ScriptCall, call_made, part_made, set_register};
 pub use literal::Literal;
-pub use mutexes::{MutexCall, MutexWord};
-pub use queues::QueueCall;
 pub use register::{REGISTER_LIMIT, Register};
 pub use registers::Registers;
-pub use tasks::{TaskCall, TaskWord};
-pub use timebases::{TimebaseCall, TimebaseWord};
-pub use timers::TimerCall;
 pub use values::{is_body_name, number_of};
 pub use vocabulary::first_word;
 pub use words::{is_line, next_line, words_of};

@@ -4,15 +4,8 @@ ghost use Rattle.std.specs.List.{list_any};
 ghost use Rattle.std.specs.Str.{bytes_eq};
 ghost use Rattle.osal_line.specs.Vocabulary as vocabulary;
 
-use crate::binary::bin_sem_word;
-use crate::condvars::condvar_word;
-use crate::counting::count_sem_word;
-use crate::grammar::{CallWord, FirstWord};
-use crate::mutexes::mutex_word;
-use crate::queues::queue_word;
-use crate::tasks::task_word;
-use crate::timebases::timebase_word;
-use crate::timers::timer_word;
+use crate::grammar::FirstWord;
+use osal_call::call_word;
 
 /// The words whose lines are not read yet.
 const UNBUILT: [&str; 33] = [
@@ -74,47 +67,6 @@ pub fn first_word(text: &[u8]) -> Option<FirstWord>
         Some(call) => Some(FirstWord::Call(call)),
         None => unbuilt_word(text),
     }
-}
-
-/// The call that a word names.
-fn call_word(text: &[u8]) -> Option<CallWord>
-    ensures { result ≡ vocabulary.call_word text.now }
-{
-    if text == b"hold".as_slice() {
-        return Some(CallWord::Hold);
-    }
-    if text == b"release".as_slice() {
-        return Some(CallWord::Release);
-    }
-    object_word(text)
-}
-
-/// The call on some kind of object that a word names.
-fn object_word(text: &[u8]) -> Option<CallWord>
-    ensures { result ≡ vocabulary.object_word text.now }
-{
-    if let Some(call) = task_word(text) {
-        return Some(CallWord::Task(call));
-    }
-    if let Some(call) = queue_word(text) {
-        return Some(CallWord::Queue(call));
-    }
-    if let Some(call) = count_sem_word(text) {
-        return Some(CallWord::CountSem(call));
-    }
-    if let Some(call) = bin_sem_word(text) {
-        return Some(CallWord::BinSem(call));
-    }
-    if let Some(call) = mutex_word(text) {
-        return Some(CallWord::Mutex(call));
-    }
-    if let Some(call) = condvar_word(text) {
-        return Some(CallWord::Condvar(call));
-    }
-    if let Some(call) = timebase_word(text) {
-        return Some(CallWord::Timebase(call));
-    }
-    Some(CallWord::Timer(timer_word(text)?))
 }
 
 fn unbuilt_word(text: &[u8]) -> Option<FirstWord>

@@ -2,6 +2,7 @@ pub use Rattle.osal_call.specs.Call
 pub use Rattle.osal_idtable.specs.Table
 pub use Rattle.osal_task.specs.Tasks
 pub use Rattle.osal_task.specs.Delays
+pub use Rattle.osal_task.specs.Calls as TaskCalls
 pub use Rattle.osal_queue.specs.Queue
 pub use Rattle.osal_queue.specs.Queues
 pub use Rattle.osal_sem.specs.Counting
@@ -11,6 +12,7 @@ pub use Rattle.osal_condvar.specs.Condvars
 pub use Rattle.osal_time.specs.Time
 pub use Rattle.osal_time.specs.Ticks
 pub use Rattle.osal_time.specs.Timers
+pub use Rattle.osal_time.specs.Calls as TimeCalls
 pub mod Parts
 pub mod Step
 pub mod OpenWaits

@@ -7,6 +7,8 @@ use Rattle.osal_base.specs.declared.time.Moment.{Moment}
 use Rattle.osal_base.specs.declared.time.Timeout.TheVariants as timeout
 use Rattle.osal_base.specs.Identifier.{type_number}
 use Rattle.osal_base.specs.Reply.{Replied, success, is_waits}
+use Rattle.osal_call.specs.declared.call.Call.{Call}
+use Rattle.osal_call.specs.declared.call.Call.TheVariants as call
 use Rattle.osal_object.specs.declared.waits.WaitRecord.{WaitRecord}
 use Rattle.osal_object.specs.Standing.{standing_on}
 use Rattle.osal_idtable.specs.Table.{Active, active_at}
@@ -15,7 +17,7 @@ use Rattle.osal_idtable.specs.Faults.{name_bytes}
 use Rattle.osal_object.specs.Waits.{wait_of}
 use Rattle.osal_object.specs.Objects.{ObjectsState, no_objects}
 use Rattle.osal_object.specs.Waiting.{abandon_step}
-use Rattle.osal_object.specs.Outcomes.{Write, Put, Outcome, Refuse, Named, On, Make, Remove, Wait, Ending, NoWait, WaitsOn, Ends, change, tell, carried_out, ended_as}
+use Rattle.osal_object.specs.Outcomes.{Write, Put, Outcome, Refuse, Named, On, Make, Remove, Wait, Ending, NoWait, WaitsOn, Ends, change, tell, carried_out, ended_as, Find, Hold, Release}
 use Rattle.osal_mutex.specs.declared.mutex.Lock.{Lock}
 use Rattle.osal_mutex.specs.declared.mutex.Lock.TheVariants as lock
 use Rattle.osal_mutex.specs.declared.mutex.Mutex.{Mutex}
@@ -133,3 +135,21 @@ wait_abandon_step mutexes task = in_mutexes (abandon_step mutexes.objects task)
 -- whether the end of the task's take would not wait on
 abbrev pub ready : MutexState → ℕ → Bool
 ready mutexes task = not (is_waits (wait_end_step mutexes task).0.answer)
+
+-- the calls of the mutex part that end no wait
+abbrev pub mutex_call : ℕ → Call → Outcome Mutex ℕ
+mutex_call task (call.MutSemCreate name) = mut_sem_create task name.bytes
+mutex_call task (call.MutSemTake id) = mut_sem_take task id
+mutex_call task (call.MutSemGive id) = mut_sem_give task id
+mutex_call task (call.MutSemDelete id) = mut_sem_delete id
+mutex_call task (call.MutSemFind name) = Find name.bytes
+mutex_call task (call.MutSemInfo id) = mut_sem_info id
+mutex_call task (call.Hold id) = Hold id
+mutex_call task (call.Release id) = Release id
+mutex_call task other = Refuse status.ErrIncorrectObjState
+
+-- the calls of the mutex part
+abbrev pub mutex_step : MutexState → ℕ → Moment → Call → Replied × MutexState
+mutex_step mutexes task now (call.WaitEnd part) = wait_end_step mutexes task
+mutex_step mutexes task now (call.WaitAbandon part) = wait_abandon_step mutexes task
+mutex_step mutexes task now made = done mutexes task now (mutex_call task made)

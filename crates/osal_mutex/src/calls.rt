@@ -1,11 +1,13 @@
 //! The calls of mutexes.
-ghost use Rattle.std.specs.Prelude.{◌≡◌, IsOk, IfOk};
+ghost use Rattle.std.specs.Prelude.{◌≡◌, IsOk, IfOk, ◌==◌, IsTrue};
 ghost use Rattle.osal_base.specs.Reply.{replied};
 ghost use Rattle.osal_object.specs.Outcomes.{Find};
-ghost use Rattle.osal_mutex.specs.Mutexes.{done, mut_sem_create, mut_sem_take, mut_sem_give, mut_sem_delete, mut_sem_info};
+ghost use Rattle.osal_mutex.specs.Mutexes.{done, mut_sem_create, mut_sem_take, mut_sem_give, mut_sem_delete, mut_sem_info, mutex_step};
+ghost use Rattle.osal_call.specs.Call.{part_of};
 
 use crate::{Lock, Mutex, MutexPart};
 use osal_base::{Ack, Bytes, Moment, Name, OsalId, OutOfMemory, Room, Status, Timeout};
+use osal_call::Call;
 use osal_idtable::status_of_name;
 use osal_object::{Standing, WaitRecord};
 use std::alloc::Global;
@@ -165,5 +167,33 @@ impl MutexPart {
             Err(_) => return Ok(Ack::refused(Status::ErrInvalidId)),
         };
         Ok(self.objects.info(id, u64::from(creator.raw()), room))
+    }
+
+    /// Makes a call that is the part's own. The bytes of the reply are left in the room.
+    pub fn apply(
+        &mut self,
+        alloc: Global,
+        task: OsalId,
+        now: Moment,
+        call: &Call,
+        room: &mut Room,
+    ) -> Result<Ack, OutOfMemory>
+        requires { IsTrue (part_of call.now == 4) }
+        ensures step { IfOk result (λ ack. (replied ack room.new, self.new) ≡ mutex_step self.old task now call.now) }
+        ensures memory { IsOk result }
+    {
+        match call {
+            Call::MutSemCreate { name } => self.mut_sem_create(alloc, task, now, name, room),
+            Call::MutSemTake { id } => self.mut_sem_take(alloc, task, now, *id, room),
+            Call::MutSemGive { id } => self.mut_sem_give(alloc, task, now, *id, room),
+            Call::MutSemDelete { id } => self.mut_sem_delete(alloc, task, now, *id, room),
+            Call::MutSemFind { name } => self.mut_sem_find(alloc, task, now, name, room),
+            Call::MutSemInfo { id } => self.mut_sem_info(alloc, task, now, *id, room),
+            Call::Hold { id } => self.hold(alloc, task, now, *id, room),
+            Call::Release { id } => self.release(alloc, task, now, *id, room),
+            Call::WaitEnd { part } => self.wait_end(alloc, task, now, *part, room),
+            Call::WaitAbandon { part } => self.wait_abandon(alloc, task, now, *part, room),
+            _ => unreachable!(),
+        }
     }
 }

@@ -1,7 +1,7 @@
 -- An identifier becomes active only by a create that issues it, and so not again before the wrap count has risen.
 use Rattle.std.proofs.Common.{◌≡◌, ◌<◌, ◌-◌, ◌^◌, ℕ, true, false, List, ◌∷◌, Some, None, is_some, Result, Ok, Err, refl, sym, ap, subst, ◌∙◌, inl, inr, arith}
 use Rattle.std.specs.FinMap as map
-use Rattle.std.proofs.lemmas.Bool.{cases_eq, cases_lt, both_ways}
+use Rattle.std.proofs.lemmas.Bool.{cases_eq, both_ways}
 use Rattle.osal_idtable.specs.declared.table.ReserveFault.{ReserveFault}
 use Rattle.osal_idtable.specs.declared.table.IdFault.{IdFault}
 use Rattle.osal_idtable.specs.Table.{TableState, Reserved, active_at}
@@ -47,9 +47,9 @@ module _ {T : Type 0} where
       ]
 
   -- what is issued later is not the same before the wrap count has risen
-  risen : (table : TableState T) (name : List ℕ) (object : T) (reserved : Reserved) → (reserve_step table (Some name)).0 ≡ Ok reserved → (calls : List (Call T)) (later : TableState T) → after_calls (finalize_step (reserve_step table (Some name)).1 reserved.id (Some object)) calls ≡ later → (other : List ℕ) (again : Reserved) → (reserve_step later (Some other)).0 ≡ Ok again → again.id ≡ reserved.id → (reserve_step later (Some other)).1.wraps < 2 ^ 64 - 1 → (reserve_step table (Some name)).1.wraps < (reserve_step later (Some other)).1.wraps
+  risen : (table : TableState T) (name : List ℕ) (object : T) (reserved : Reserved) → (reserve_step table (Some name)).0 ≡ Ok reserved → (calls : List (Call T)) (later : TableState T) → after_calls (finalize_step (reserve_step table (Some name)).1 reserved.id (Some object)) calls ≡ later → (other : List ℕ) (again : Reserved) → (reserve_step later (Some other)).0 ≡ Ok again → again.id ≡ reserved.id → (reserve_step table (Some name)).1.wraps < 2 ^ 64 - 1 → (reserve_step table (Some name)).1.wraps < (reserve_step later (Some other)).1.wraps
   risen table name object reserved issued calls later is other again =
-      let P : TableState T → Type 0 = λ t. (reserve_step t (Some other)).0 ≡ Ok again → again.id ≡ reserved.id → (reserve_step t (Some other)).1.wraps < 2 ^ 64 - 1 → (reserve_step table (Some name)).1.wraps < (reserve_step t (Some other)).1.wraps in
+      let P : TableState T → Type 0 = λ t. (reserve_step t (Some other)).0 ≡ Ok again → again.id ≡ reserved.id → (reserve_step table (Some name)).1.wraps < 2 ^ 64 - 1 → (reserve_step table (Some name)).1.wraps < (reserve_step t (Some other)).1.wraps in
       subst P is (not_reissued T table (Some name) reserved issued (Finalize reserved.id (Some object) ∷ calls) (Some other) again)
 
   -- a create leaves the wrap count of its reservation
@@ -63,12 +63,8 @@ module _ {T : Type 0} where
   risen_between old start later new id first between second room =
       let at_first = wraps_of old start id first in
       let at_second = wraps_of later new id second in
-      elim (cases_lt new.wraps (2 ^ 64 - 1)) [
-        | inr most ↦ omega arith
-        | inl below ↦
-            let less = risen old first.name first.object first.reserved first.issued between.calls later (ap (λ t. after_calls t between.calls) (sym first.table) ∙ between.same) second.name second.reserved second.issued (second.same ∙ sym first.same) (omega arith) in
-            omega arith
-      ]
+      let less = risen old first.name first.object first.reserved first.issued between.calls later (ap (λ t. after_calls t between.calls) (sym first.table) ∙ between.same) second.name second.reserved second.issued (second.same ∙ sym first.same) (omega arith) in
+      omega arith
 
 module _ {T W : Type 0} (objects : ObjectsState T W) (id : ℕ) (before : is_some (active_at objects.table id) ≡ false) where
   made_by : (name : List ℕ) (object : T) (r : Result Reserved ReserveFault) → (reserve_step objects.table (Some name)).0 ≡ r → is_some (active_at (created objects object r (reserve_step objects.table (Some name)).1).1.table id) ≡ true → IsMade objects.table (created objects object r (reserve_step objects.table (Some name)).1).1.table id

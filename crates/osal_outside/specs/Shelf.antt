@@ -1,10 +1,10 @@
 -- A shelf of files: what it means, and what its calls leave.
-use Rattle.std.specs.Prelude.{◌≡◌, ◌≢◌, ◌≤◌, ◌↔◌, List, [], ◌++◌, ℕ, take, Option, Some, None, IsSome, Result, Ok, Err}
+use Rattle.std.specs.Prelude.{◌≡◌, ◌≢◌, ◌↔◌, Bool, true, false, List, [], ◌++◌, ℕ, take, Option, Some, None, IsSome, Result, Ok, Err}
 use Rattle.osal_outside.specs.declared.shelf.Opened.{Opened}
 use Rattle.osal_outside.specs.declared.shelf.Opened.TheVariants as opened
 use Rattle.osal_outside.specs.declared.shelf.ReadFailed.{ReadFailed}
 use Rattle.osal_base.specs.declared.reply.OutOfMemory.{OutOfMemory}
-use Rattle.osal_outside.specs.Causes.{Rose}
+use Rattle.osal_outside.specs.Causes.{RoseIf}
 
 -- a finite map from names to bytes, by its look-up
 abbrev pub Files : Type 0
@@ -29,9 +29,16 @@ abbrev pub AnswersUntold : Option ShelfContent → Result Opened OutOfMemory →
 AnswersUntold None result = result ≢ Ok opened.NotFound
 AnswersUntold (Some told) result = Unit {0}
 
--- the count has not fallen, and it rose where the open failed
+-- the open failed by a fault of the outside: want of memory is none
+abbrev pub is_fault : Result Opened OutOfMemory → Bool
+is_fault (Ok opened.Failed) = true
+is_fault (Ok opened.Ready) = false
+is_fault (Ok opened.NotFound) = false
+is_fault (Err memory) = false
+
+-- the count rose if the open failed, and else it stayed
 abbrev pub HasOpenCause : ℕ → ℕ → Result Opened OutOfMemory → Type 0
-HasOpenCause before now result = (before ≤ now) × (result ≡ Ok opened.Failed → Rose before now)
+HasOpenCause before now result = RoseIf (is_fault result) before now
 
 -- what a read leaves of what a shelf tells: it gives the front of the rest, and nothing only at its end
 abbrev pub ReadLeaves : Result ℕ ReadFailed → List ℕ → ShelfContent → ShelfContent → Type 0

@@ -1,7 +1,7 @@
 //! The shelf and the sink of the host: its files and its standard output.
 ghost use Rattle.std.specs.Prelude.{◌≡◌, ◌<◌, ◌≤◌, None, length, is_some, IfOk};
 ghost use Rattle.osal_outside.specs.Causes.{HasCause};
-ghost use Rattle.osal_outside.specs.Host.{CountsFault, HostOpens};
+ghost use Rattle.osal_outside.specs.Host.{CountsFault, HostOpens, ReadsOpen};
 ghost use Rattle.osal_outside.specs.Shelf.{AnswersUntold, HasOpenCause};
 
 use crate::{Opened, ReadFailed, Shelf, Sink, WriteFailed};
@@ -59,9 +59,12 @@ impl<R: Files + Drop> Shelf for HostShelf<R> {
         Ok(Opened::Ready)
     }
 
+    /// It gives no bytes where no file is open, and leaves an open file open.
     fn read(&mut self, buf: &mut [u8]) -> Result<usize, ReadFailed>
         requires { 0 < length buf.old }
         ensures exact { CountsFault self.old.faults self.new.faults result }
+        ensures closed { ReadsOpen (is_some self.old.file) result }
+        ensures held { is_some self.new.file ≡ is_some self.old.file }
         ensures bound { IfOk result (λ n. n ≤ length buf.new) }
         ensures cause { HasCause self.old.faults self.new.faults result }
     {
@@ -102,6 +105,8 @@ impl<P: Print + Drop> HostSink<P> {
 impl<P: Print + Drop> Sink for HostSink<P> {
     ghost written = { λ s. None };
 
+    ghost flushed = { λ s. None };
+
     ghost faults = { λ s. s.faults };
 
     /// A write that takes nothing is a fault too.
@@ -119,7 +124,11 @@ impl<P: Print + Drop> Sink for HostSink<P> {
         Ok(n)
     }
 
-    fn flush(&mut self) -> Result<(), WriteFailed> {
+    /// Each write has handed on its bytes, so there is nothing left to do.
+    fn flush(&mut self) -> Result<(), WriteFailed>
+        ensures exact { CountsFault self.old.faults self.new.faults result }
+        ensures cause { HasCause self.old.faults self.new.faults result }
+    {
         Ok(())
     }
 }

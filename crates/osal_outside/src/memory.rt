@@ -4,8 +4,8 @@ ghost use Rattle.osal_outside.specs.Causes.{HasCause, WhereTold};
 ghost use Rattle.osal_outside.specs.Shelf.{OpenLeaves, AnswersUntold, HasOpenCause, ReadLeaves};
 ghost use Rattle.osal_outside.specs.Memory.{stored, has_twins};
 ghost use Rattle.osal_outside.specs.MemShelf.{told, fresh_shelf, open_step, read_step};
-ghost use Rattle.osal_outside.specs.Sink.{WriteLeaves};
-ghost use Rattle.osal_outside.specs.MemSink.{fresh_sink, write_step, flush_step};
+ghost use Rattle.osal_outside.specs.Sink.{WriteLeaves, FlushLeaves};
+ghost use Rattle.osal_outside.specs.MemSink.{fresh_sink, flushed_bytes, write_step, flush_step};
 
 use crate::files::{fill, place_of, rest_of};
 use crate::plan::Plan;
@@ -126,12 +126,13 @@ impl Shelf for MemShelf {
     }
 }
 
-/// A sink in memory, which tells its bytes.
+/// A sink in memory, which tells its bytes and how many of them were handed on.
 ///
 /// It counts its writes and flushes together, and fails at the calls that it was given.
 #[derive(Debug, Drop)]
 pub struct MemSink {
     bytes: Bytes,
+    handed: usize,
     room: u32,
     grain: u32,
     plan: Plan,
@@ -143,9 +144,17 @@ impl Model for MemSink {
 
     ghost Value = { MemWritten };
 
-    ghost view = { λ a. record { bytes = a.bytes.bytes; room = a.room; grain = a.grain; plan = a.plan } };
+    ghost view = { λ a. record {
+      bytes = a.bytes.bytes;
+      handed = a.handed;
+      room = a.room;
+      grain = a.grain;
+      plan = a.plan;
+    } };
 
-    ghost invariant = { λ a. (1 ≤ a.grain) × (a.room ≤ length a.bytes.bytes + a.bytes.spare) };
+    ghost invariant = { λ a. (1 ≤ a.grain)
+        × (a.room ≤ length a.bytes.bytes + a.bytes.spare)
+        × (a.handed ≤ length a.bytes.bytes) };
 }
 
 impl MemSink {
@@ -163,6 +172,7 @@ impl MemSink {
     {
         Ok(MemSink {
             bytes: Bytes::with_room(alloc, room)?,
+            handed: 0,
             room,
             grain,
             plan: Plan::new(fails),
@@ -176,6 +186,13 @@ impl MemSink {
         self.bytes.as_slice()
     }
 
+    /// The bytes handed on: what was written before the last flush that did not fail.
+    pub fn flushed(&self) -> &[u8]
+        ensures { result.now ≡ flushed_bytes self.now }
+    {
+        &self.bytes.as_slice()[..self.handed]
+    }
+
     /// How many calls failed.
     pub fn faults(&self) -> u64
         ensures { result ≡ self.now.plan.faults }
@@ -186,6 +203,8 @@ impl MemSink {
 
 impl Sink for MemSink {
     ghost written = { λ s. Some s.bytes };
+
+    ghost flushed = { λ s. Some (flushed_bytes s) };
 
     ghost faults = { λ s. s.plan.faults };
 
@@ -210,7 +229,8 @@ impl Sink for MemSink {
 
     fn flush(&mut self) -> Result<(), WriteFailed>
         ensures step { (result, self.new) ≡ flush_step self.old }
-        ensures told { self.new.bytes ≡ self.old.bytes }
+        ensures told { Some self.new.bytes ≡ Some self.old.bytes }
+        ensures handed { FlushLeaves result (Some self.new.bytes) (Some (flushed_bytes self.old)) (Some (flushed_bytes self.new)) }
         ensures cause { HasCause self.old.plan.faults self.new.plan.faults result }
     {
         if self.plan.is_due() {
@@ -218,6 +238,7 @@ impl Sink for MemSink {
             return Err(WriteFailed);
         }
         self.plan.count();
+        self.handed = self.bytes.as_slice().len();
         Ok(())
     }
 }

@@ -53,7 +53,6 @@ impl Plan {
     /// A call failed.
     pub fn fail(&mut self)
         ensures value { self.new ≡ failed self.old }
-        ensures later { self.old.faults ≤ self.new.faults }
         ensures rose { Rose self.old.faults self.new.faults }
     {
         self.calls = self.calls.saturating_add(1);

@@ -26,7 +26,7 @@ pub trait Shelf {
     /// The files and what is left of the open one, where the shelf tells it.
     ghost content: { Self → Option ShelfContent };
 
-    /// How often the outside has failed.
+    /// How often the outside has failed: a call that did not fail leaves it.
     ghost faults: { Self → ℕ };
 
     /// Opens the file of that name in place of the one that is open.

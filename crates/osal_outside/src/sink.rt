@@ -1,7 +1,7 @@
 //! Where a program writes its output.
 ghost use Rattle.std.specs.Prelude.{◌≡◌, ◌<◌, ◌≤◌, ℕ, List, Option, length, IfOk, OnOk, OnErr};
 ghost use Rattle.osal_outside.specs.Causes.{HasCause, WhereTold};
-ghost use Rattle.osal_outside.specs.Sink.{WriteLeaves, Appends, AppendsPrefix};
+ghost use Rattle.osal_outside.specs.Sink.{WriteLeaves, FlushLeaves, Appends, AppendsPrefix};
 
 /// A write or a flush failed; nothing more was written.
 #[derive(Clone, Copy, Debug, PartialEq, Eq)]
@@ -12,7 +12,10 @@ pub trait Sink {
     /// The bytes written, where the sink tells them.
     ghost written: { Self → Option (List ℕ) };
 
-    /// How often the outside has failed.
+    /// The bytes handed on, where the sink tells them.
+    ghost flushed: { Self → Option (List ℕ) };
+
+    /// How often the outside has failed: a call that did not fail leaves it.
     ghost faults: { Self → ℕ };
 
     /// Writes at least one byte of the piece, from its front, and answers how many.
@@ -25,6 +28,7 @@ pub trait Sink {
     /// Hands on what was written.
     fn flush(&mut self) -> Result<(), WriteFailed>
         ensures told { written self.new ≡ written self.old }
+        ensures handed { FlushLeaves result (written self.new) (flushed self.old) (flushed self.new) }
         ensures cause { HasCause (faults self.old) (faults self.new) result };
 }
 

@@ -2,10 +2,8 @@
 ghost use Rattle.std.specs.Prelude.{◌≡◌};
 ghost use Rattle.osal_price.specs.Handlers as handlers;
 
-use osal_line::{
-    BinSemCall, BodyKind, CallWord, CondvarWord, CountSemCall, MutexWord, QueueCall, ScriptCall,
-    TaskWord, TimebaseWord,
-};
+use osal_call::{CallWord, NumberWord, ObjectWord, WaitWord};
+use osal_line::{BodyKind, ScriptCall};
 
 /// Whether a kind of body is a handler.
 pub fn is_handler(kind: BodyKind) -> bool
@@ -22,17 +20,25 @@ pub fn needs_task(call: CallWord) -> bool
     ensures { result ≡ handlers.needs_task call }
 {
     match call {
-        CallWord::Task(call) => matches!(call, TaskWord::Create | TaskWord::Exit | TaskWord::Delay),
-        CallWord::Mutex(call) => matches!(call, MutexWord::Take),
-        CallWord::Condvar(call) => matches!(call, CondvarWord::Lock | CondvarWord::Wait),
-        CallWord::Timebase(call) => matches!(call, TimebaseWord::Tick),
-        CallWord::Queue(_)
-        | CallWord::CountSem(_)
-        | CallWord::BinSem(_)
-        | CallWord::Timer(_)
-        | CallWord::Hold
-        | CallWord::Release => false,
+        CallWord::TaskCreate | CallWord::TaskExit | CallWord::TaskDelay => true,
+        CallWord::Object(word) => object_waits(word),
+        CallWord::Wait(word) => matches!(word, WaitWord::CondvarWait),
+        CallWord::Number(word) => matches!(word, NumberWord::TimebaseTick),
+        CallWord::Name(_)
+        | CallWord::Value(_)
+        | CallWord::QueueCreate
+        | CallWord::QueuePut
+        | CallWord::QueueGet
+        | CallWord::TimerAdd
+        | CallWord::TimerSet => false,
     }
+}
+
+/// Whether a call with an identifier alone may wait, and then without a deadline.
+pub(crate) fn object_waits(word: ObjectWord) -> bool
+    ensures { result ≡ handlers.object_waits word }
+{
+    matches!(word, ObjectWord::MutSemTake | ObjectWord::CondvarLock)
 }
 
 /// Whether the call may wait as it stands: it can, and its wait is not `check`.
@@ -40,9 +46,7 @@ pub fn may_wait(call: &ScriptCall) -> bool
     ensures { result ≡ handlers.may_wait call.now }
 {
     match call {
-        ScriptCall::Queue(QueueCall::Get { wait, .. })
-        | ScriptCall::CountSem(CountSemCall::Take { wait, .. })
-        | ScriptCall::BinSem(BinSemCall::Take { wait, .. }) => !wait.is_check(),
+        ScriptCall::Wait { wait, .. } | ScriptCall::QueueGet { wait, .. } => !wait.is_check(),
         _ => false,
     }
 }

@@ -8,6 +8,8 @@ use Rattle.osal_base.specs.declared.time.Timeout.{Timeout}
 use Rattle.osal_base.specs.Identifier.{type_number}
 use Rattle.osal_base.specs.Reply.{Replied, refusal, gives_bytes, is_waits}
 use Rattle.osal_base.specs.Time.{is_check}
+use Rattle.osal_call.specs.declared.call.Call.{Call}
+use Rattle.osal_call.specs.declared.call.Call.TheVariants as call
 use Rattle.osal_object.specs.declared.waits.WaitRecord.{WaitRecord}
 use Rattle.osal_object.specs.Standing.{standing_on}
 use Rattle.osal_idtable.specs.Table.{Active, active_at}
@@ -15,7 +17,7 @@ use Rattle.osal_idtable.specs.Faults.{name_bytes}
 use Rattle.osal_object.specs.Waits.{wait_of, is_due}
 use Rattle.osal_object.specs.Objects.{ObjectsState, no_objects, with_value}
 use Rattle.osal_object.specs.Waiting.{abandon_step}
-use Rattle.osal_object.specs.Outcomes.{Put, Outcome, Refuse, Named, On, Give, Make, Wait, Ending, NoWait, WaitsOn, Ends, change, tell, carried_out, ended_as}
+use Rattle.osal_object.specs.Outcomes.{Put, Outcome, Refuse, Named, On, Give, Make, Wait, Ending, NoWait, WaitsOn, Ends, change, tell, carried_out, ended_as, Find, Remove, Hold, Release}
 use Rattle.osal_queue.specs.Queue.{Queue, may_be_sized, empty_queue, with_messages, with_message}
 
 -- the queue part: the queues, and the gets that wait, each for a message of the queue of that identifier
@@ -118,3 +120,21 @@ wait_abandon_step queues task = in_queues (abandon_step queues.objects task)
 -- whether the end of the task's get would not wait on
 abbrev pub ready : QueueState → ℕ → Moment → Bool
 ready queues task now = not (is_waits (wait_end_step queues task now).0.answer)
+
+-- the calls of the queue part that end no wait
+abbrev pub queue_call : ℕ → Call → Outcome Queue ℕ
+queue_call task (call.QueueCreate name depth size) = queue_create task name.bytes depth size
+queue_call task (call.QueueDelete id) = Remove id
+queue_call task (call.QueuePut id payload) = queue_put id payload.bytes
+queue_call task (call.QueueGet id n wait) = queue_get id n wait
+queue_call task (call.QueueFind name) = Find name.bytes
+queue_call task (call.QueueInfo id) = queue_info id
+queue_call task (call.Hold id) = Hold id
+queue_call task (call.Release id) = Release id
+queue_call task other = Refuse status.ErrIncorrectObjState
+
+-- the calls of the queue part
+abbrev pub queue_step : QueueState → ℕ → Moment → Call → Replied × QueueState
+queue_step queues task now (call.WaitEnd part) = wait_end_step queues task now
+queue_step queues task now (call.WaitAbandon part) = wait_abandon_step queues task
+queue_step queues task now made = done queues task now (queue_call task made)

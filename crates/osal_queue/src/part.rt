@@ -1,13 +1,15 @@
 //! The queue part.
-ghost use Rattle.std.specs.Prelude.{◌≡◌, IsOk, IfOk, is_some};
+ghost use Rattle.std.specs.Prelude.{◌≡◌, IsOk, IfOk, is_some, ◌==◌, IsTrue, OnErr, false};
 ghost use Rattle.osal_base.specs.Limits.{Fits};
-ghost use Rattle.osal_base.specs.Reply.{replied};
+ghost use Rattle.osal_base.specs.Reply.{replied, success};
 ghost use Rattle.osal_idtable.specs.Table.{active_at};
 ghost use Rattle.osal_object.specs.Outcomes.{Find, Hold, Release};
-ghost use Rattle.osal_queue.specs.Queues.{no_queues, done, queue_info};
+ghost use Rattle.osal_queue.specs.Queues.{no_queues, done, queue_info, queue_step};
+ghost use Rattle.osal_call.specs.Call.{part_of, takes_memory};
 
 use crate::Queue;
 use osal_base::{Ack, Bytes, Limits, Moment, ObjType, OsalId, OutOfMemory, Room, Status};
+use osal_call::Call;
 use osal_object::Objects;
 use std::alloc::Global;
 use std::marker::Model;
@@ -122,5 +124,39 @@ impl QueuePart {
         ensures { result ≡ is_some (active_at self.now.objects.table id) }
     {
         self.objects.is_active(id)
+    }
+
+    /// Makes a call that is the part's own. The bytes of the reply are left in the room.
+    pub fn apply(
+        &mut self,
+        alloc: Global,
+        task: OsalId,
+        now: Moment,
+        call: &Call,
+        room: &mut Room,
+    ) -> Result<Ack, OutOfMemory>
+        requires { IsTrue (part_of call.now == 1) }
+        ensures step { IfOk result (λ ack. (replied ack room.new, self.new) ≡ queue_step self.old task now call.now) }
+        ensures kept { OnErr result (self.new ≡ self.old) }
+        ensures asked_last { OnErr result ((queue_step self.old task now call.now).0.answer ≡ success.answer) }
+        ensures memory { takes_memory call.now ≡ false → IsOk result }
+    {
+        match call {
+            Call::QueueCreate { name, depth, size } => self.queue_create(
+                alloc, task, now, name, *depth, *size, room,
+            ),
+            Call::QueueDelete { id } => self.queue_delete(alloc, task, now, *id, room),
+            Call::QueuePut { id, payload } => self.queue_put(alloc, task, now, *id, payload, room),
+            Call::QueueGet { id, n, wait } => self.queue_get(
+                alloc, task, now, *id, *n, *wait, room,
+            ),
+            Call::QueueFind { name } => self.queue_find(alloc, task, now, name, room),
+            Call::QueueInfo { id } => self.queue_info(alloc, task, now, *id, room),
+            Call::Hold { id } => self.hold(alloc, task, now, *id, room),
+            Call::Release { id } => self.release(alloc, task, now, *id, room),
+            Call::WaitEnd { part } => self.wait_end(alloc, task, now, *part, room),
+            Call::WaitAbandon { part } => self.wait_abandon(alloc, task, now, *part, room),
+            _ => unreachable!(),
+        }
     }
 }

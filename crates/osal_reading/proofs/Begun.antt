@@ -6,12 +6,13 @@ use Rattle.std.proofs.lemmas.Bool.{cond_both}
 use Rattle.std.proofs.lemmas.List.{length_push}
 use Rattle.osal_line.specs.declared.kind.BodyKind.{BodyKind}
 use Rattle.osal_line.specs.declared.kind.BodyKind.TheVariants as kind
-use Rattle.osal_line.specs.declared.grammar.CallWord.{CallWord}
+use Rattle.osal_call.specs.declared.word.CallWord.{CallWord}
 use Rattle.osal_line.specs.declared.grammar.FirstWord.{FirstWord}
 use Rattle.osal_line.specs.declared.grammar.FirstWord.TheVariants as first
 use Rattle.osal_line.specs.Words.{words_of, is_line_byte}
 use Rattle.osal_line.specs.Values.{is_body_name, number_below}
-use Rattle.osal_line.specs.Vocabulary.{first_word, call_word, call_or_unbuilt, unbuilt_words}
+use Rattle.osal_call.specs.Signature.{call_word}
+use Rattle.osal_line.specs.Vocabulary.{first_word, call_or_unbuilt, unbuilt_words}
 use Rattle.osal_line.specs.Declarations.{Declared, declared_by}
 use Rattle.osal_price.specs.Handlers.{is_handler, needs_task}
 use Rattle.osal_line.proofs.Declaring.{by_kind, of_no_kind, none_declared}

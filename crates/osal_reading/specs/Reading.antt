@@ -6,7 +6,7 @@ use Rattle.osal_line.specs.declared.kind.BodyKind.{BodyKind}
 use Rattle.osal_line.specs.declared.kind.BodyKind.TheVariants as kind
 use Rattle.osal_line.specs.declared.line.ScriptCall.{ScriptCall}
 use Rattle.osal_line.specs.declared.expectation.Expect.{Expect}
-use Rattle.osal_line.specs.declared.grammar.CallWord.{CallWord}
+use Rattle.osal_call.specs.declared.word.CallWord.{CallWord}
 use Rattle.osal_line.specs.declared.grammar.FirstWord.{FirstWord}
 use Rattle.osal_line.specs.declared.grammar.FirstWord.TheVariants as first
 use Rattle.osal_line.specs.Words.{lines_of, words_of, is_line_byte}

@@ -11,9 +11,9 @@ use crate::FaultKind;
 use crate::draft::{Draft, DraftBody};
 use crate::fault::Stop;
 use osal_base::OutOfMemory;
+use osal_call::CallWord;
 use osal_line::{
-    BodyKind, CallWord, Declarations, Expect, Line, ScriptCall, arrow_place, call_of_words,
-    expectation_of,
+    BodyKind, Declarations, Expect, Line, ScriptCall, arrow_place, call_of_words, expectation_of,
 };
 use osal_price::{is_handler, may_wait, needs_task};
 use osal_script::Item;

@@ -2,10 +2,10 @@ pub mod Pushed
 pub mod Places
 pub mod Drafted
 pub mod Totals
-pub mod Chain
 pub mod Ended
 pub mod Reading
 pub mod Waits
 pub mod Statuses
 pub mod Spelled
 pub mod Worked
+pub mod Rooms

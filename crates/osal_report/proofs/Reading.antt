@@ -9,7 +9,7 @@ use Rattle.osal_script.specs.App.{Application}
 use Rattle.osal_script.specs.Script.{ScriptState, after_entry, reached, is_ended}
 use Rattle.osal_report.specs.Cases.{case_by, cases_from, failed}
 use Rattle.osal_report.specs.Report.{is_stalled}
-use Rattle.osal_report.specs.Ends.{begins, if_of, entries_of}
+use Rattle.osal_runs.specs.Spans.{begins, if_of, span_of}
 use Rattle.osal_report.proofs.Pushed.{failed_append}
 use Rattle.osal_report.proofs.Ended.{ended_reached, ended_cases}
 
@@ -76,11 +76,11 @@ pub ends_here : {state : ScriptState} {fails stalls passes : Bool} → Ends stat
 ends_here {state} {fails} ends = (ends.stalled, sym (and_true (not fails)) ∙ ends.passed)
 
 -- the entries from a place on are the one there, where it is the task's, and the task's behind it
-entries_at : (app : Application) (id : ℕ) (entries : List Entry) (i : ℕ) (entry : Entry) → i < length entries → entry ≡ get_or entries i entry → entries_of app id (drop i entries) ≡ if_of id entry ++ cond (begins app entry id) [] (entries_of app id (drop (i + 1) entries))
+entries_at : (app : Application) (id : ℕ) (entries : List Entry) (i : ℕ) (entry : Entry) → i < length entries → entry ≡ get_or entries i entry → span_of app id (drop i entries) ≡ if_of id entry ++ cond (begins app entry id) [] (span_of app id (drop (i + 1) entries))
 entries_at app id entries i entry within is =
-    ap (entries_of app id) (drop_more entries i entry within ∙ ap (λ e. e ∷ drop (i + 1) entries) (sym is))
+    ap (span_of app id) (drop_more entries i entry within ∙ ap (λ e. e ∷ drop (i + 1) entries) (sym is))
 
 -- the entry at a place is read
-pub ends_more : (app : Application) (id : ℕ) (entries : List Entry) (i : ℕ) (entry : Entry) (state after : ScriptState) (fails later : Bool) {stalls passes : Bool} → i < length entries → entry ≡ get_or entries i entry → Ends state fails (entries_of app id (drop i entries)) stalls passes → after ≡ reached state (if_of id entry) → not later ≡ (not fails && (failed (cases_from state (if_of id entry)) == 0)) → Ends after later (cond (begins app entry id) [] (entries_of app id (drop (i + 1) entries))) stalls passes
+pub ends_more : (app : Application) (id : ℕ) (entries : List Entry) (i : ℕ) (entry : Entry) (state after : ScriptState) (fails later : Bool) {stalls passes : Bool} → i < length entries → entry ≡ get_or entries i entry → Ends state fails (span_of app id (drop i entries)) stalls passes → after ≡ reached state (if_of id entry) → not later ≡ (not fails && (failed (cases_from state (if_of id entry)) == 0)) → Ends after later (cond (begins app entry id) [] (span_of app id (drop (i + 1) entries))) stalls passes
 ends_more app id entries i entry state after fails later {stalls} {passes} within is ends by_state by_fails =
     ends_read state after fails later (if_of id entry) _ (subst (λ (rest : List Entry). Ends state fails rest stalls passes) (entries_at app id entries i entry within is) ends) by_state by_fails

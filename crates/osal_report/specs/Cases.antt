@@ -14,12 +14,11 @@ use Rattle.osal_line.specs.declared.line.Line.{Line}
 use Rattle.osal_line.specs.declared.expectation.Expect.{Expect}
 use Rattle.osal_line.specs.declared.expectation.Value.{Value}
 use Rattle.osal_line.specs.declared.expectation.Value.TheVariants as value
-use Rattle.osal_line.specs.Calls.{register_of}
+use Rattle.osal_line.specs.Calls.{call_name, register_of}
 use Rattle.osal_script.specs.declared.phase.Phase.{Phase}
 use Rattle.osal_script.specs.declared.phase.Phase.TheVariants as phase
 use Rattle.osal_script.specs.Script.{Pending, ScriptState, start_of, is_checkpoint, after_entry}
 use Rattle.osal_runs.specs.Segments.{Segment}
-use Rattle.osal_report.specs.Names.{call_name}
 use Rattle.osal_report.specs.Spelling.{id_text, code_text, answer_text, quoted}
 
 -- whether a call gives an identifier: those that set a register do

@@ -5,7 +5,7 @@ use Rattle.osal_script.specs.Script.{ScriptState, after_entry}
 use Rattle.osal_runs.specs.Segments.{Segment, script_in}
 use Rattle.osal_line.specs.declared.line.Line.{Line}
 use Rattle.osal_script.specs.Cursor.{first_line}
-use Rattle.osal_report.specs.Names.{call_name}
+use Rattle.osal_line.specs.Calls.{call_name}
 use Rattle.osal_report.specs.Cases.{case_by, cases_of, cases_text, passed, failed}
 use Rattle.osal_report.specs.Report.{is_exit, ends_in_exit, is_stalled, how_by_phase, stall_line, begin_text, end_text}
 

@@ -2,7 +2,6 @@ pub use Rattle.osal_script.specs.App
 pub use Rattle.osal_script.specs.Script
 pub use Rattle.osal_runs.specs.Runs
 pub mod Spelling
-pub mod Names
 pub mod Cases
 pub mod Report
 pub mod Draft

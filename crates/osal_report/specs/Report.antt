@@ -10,7 +10,7 @@ use Rattle.osal_script.specs.App.{Application}
 use Rattle.osal_script.specs.Script.{Pending}
 use Rattle.osal_runs.specs.Segments.{Segment, script_in, segments_of}
 use Rattle.osal_report.specs.Spelling.{id_text}
-use Rattle.osal_report.specs.Names.{call_name}
+use Rattle.osal_line.specs.Calls.{call_name}
 use Rattle.osal_report.specs.Cases.{cases_of, cases_text, passed, failed}
 
 -- whether a call is the exit of a task

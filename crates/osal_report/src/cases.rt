@@ -1,12 +1,11 @@
 //! The cases of a segment.
 ghost use Rattle.std.specs.Prelude.{◌≡◌, ◌++◌, IfOk, OnOk, [], ◌∷◌, codes, if◌then◌else◌};
 ghost use Rattle.std.specs.Fmt.{decimal};
-ghost use Rattle.osal_report.specs.Names.{call_name as name_of_call};
+ghost use Rattle.osal_line.specs.Calls.{call_name as name_of_call};
 ghost use Rattle.osal_report.specs.Spelling.{code_text};
 ghost use Rattle.osal_base.specs.Reply.{reply_of};
 ghost use Rattle.osal_report.specs.Cases.{gives_id as gives, number_text, is_code as is_code_of, is_value as is_value_of, passes as passes_case, got_value, wanted_value, case_text};
 
-use crate::names::call_name;
 use crate::spelling::{push_answer, push_bytes, push_code, push_decimal, push_id, push_quoted};
 use osal_base::{Answer, OutOfMemory, Reply};
 use osal_script::{Expect, Line, ScriptCall, Value};
@@ -122,7 +121,7 @@ fn push_case_head(
     push_bytes(out, b" line ")?;
     push_decimal(alloc, out, u64::from(line.number))?;
     push_bytes(out, b" ")?;
-    push_bytes(out, call_name(&line.call))?;
+    push_bytes(out, line.call.name())?;
     push_bytes(out, b" ")?;
     Ok(())
 }

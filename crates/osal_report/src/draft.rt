@@ -119,7 +119,10 @@ impl<'a> Draft<'a> {
     }
 
     /// How much room the segment's text takes, with some to spare.
-    pub(crate) fn room(&self) -> usize {
+    #[tactic(auto, using(crate::proofs::Rooms::holds_names))]
+    pub(crate) fn room(&self) -> usize
+        ensures { result ≤ length (draft_text self.now) + 160 }
+    {
         let names = self.name.len().saturating_mul(2);
         self.lines
             .len()

@@ -6,12 +6,10 @@ mod counts;
 mod draft;
 mod drafts;
 mod entry;
-mod names;
 mod segment;
 mod spelling;
 mod status;
 mod summary;
 
-pub use names::call_name;
 pub use status::{End, end_of_all, status_of};
 pub use summary::{Summary, report, summarize};

@@ -1,11 +1,10 @@
 //! The lines of a segment around its cases.
 ghost use Rattle.std.specs.Prelude.{◌≡◌, ◌++◌, [], OnOk, codes, option_copied, if◌then◌else◌};
-ghost use Rattle.osal_report.specs.Names.{call_name as name_of_call};
+ghost use Rattle.osal_line.specs.Calls.{call_name as name_of_call};
 ghost use Rattle.osal_report.specs.Report.{segment_name, begin_text, end_text, how_by_phase, is_stalled as is_stalled_phase, stall_line};
 ghost use Rattle.osal_report.specs.Draft.{stall_of_line};
 
 use crate::counts::{Counts, push_counts};
-use crate::names::call_name;
 use crate::spelling::{push_bytes, push_decimal, push_id};
 use osal_base::OutOfMemory;
 use osal_script::{Line, Phase};
@@ -40,7 +39,7 @@ fn push_stall_line(alloc: Global, out: &mut Vec<u8>, line: &Line) -> Result<(), 
     push_bytes(out, b"[STALL] line ")?;
     push_decimal(alloc, out, u64::from(line.number))?;
     push_bytes(out, b" ")?;
-    push_bytes(out, call_name(&line.call))?;
+    push_bytes(out, line.call.name())?;
     push_bytes(out, b"\n")?;
     Ok(())
 }

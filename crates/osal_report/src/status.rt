@@ -5,7 +5,8 @@ ghost use Rattle.osal_runs.specs.Segments.{segments_of};
 ghost use Rattle.osal_runs.specs.Runs.{IsPartRun};
 ghost use Rattle.osal_report.specs.Cases.{case_by, cases_from, failed};
 ghost use Rattle.osal_report.specs.Report.{is_stalled as is_stalled_phase, all_failed};
-ghost use Rattle.osal_report.specs.Ends.{begins as begins_id, if_of, entries_of, some_stalls};
+ghost use Rattle.osal_runs.specs.Spans.{begins as begins_id, if_of, span_of};
+ghost use Rattle.osal_report.specs.Ends.{some_stalls};
 ghost use Rattle.osal_report.specs.Status.{status_of as status_by};
 
 use crate::cases::passes;
@@ -116,9 +117,9 @@ impl<'a> Reading<'a> {
 /// It reads them up to the script's end.
 fn end_of_task(app: &App, id: u64, body: &Body, entries: &[Entry]) -> End
     ensures stalled { result.stalled
-        ≡ is_stalled_phase (reached (start_of app.now.bodies body.now) (entries_of app.now id entries.now)).phase }
+        ≡ is_stalled_phase (reached (start_of app.now.bodies body.now) (span_of app.now id entries.now)).phase }
     ensures passes { not result.fails
-        ≡ (failed (cases_from (start_of app.now.bodies body.now) (entries_of app.now id entries.now)) == 0) }
+        ≡ (failed (cases_from (start_of app.now.bodies body.now) (span_of app.now id entries.now)) == 0) }
 {
     let mut reading = Reading {
         cursor: Cursor::new(app, body),

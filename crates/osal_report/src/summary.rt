@@ -1,5 +1,5 @@
 //! The report of a journal, alone and with its exit status.
-ghost use Rattle.std.specs.Prelude.{◌≡◌, ◌++◌, length, IfOk, OnOk};
+ghost use Rattle.std.specs.Prelude.{◌≡◌, ◌≤◌, ◌+◌, ◌*◌, ◌++◌, length, IfOk, OnOk};
 ghost use Rattle.std.specs.List.{AllByRecursion, flat_map, sum_by};
 ghost use Rattle.osal_runs.specs.Runs.{IsPartRun};
 ghost use Rattle.osal_report.specs.Report.{total_text, report_text};
@@ -20,7 +20,9 @@ use std::alloc::Global;
 const TOTAL_ROOM: usize = 100;
 
 /// How much room a report takes, with some to spare.
-fn room_of(drafts: &[Draft]) -> usize {
+fn room_of(drafts: &[Draft]) -> usize
+    ensures { result ≤ length (flat_map draft_text drafts.now) + 160 * length drafts.now + 100 }
+{
     let mut room = TOTAL_ROOM;
     for draft in drafts {
         room = room.saturating_add(draft.room());

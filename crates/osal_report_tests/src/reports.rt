@@ -2,8 +2,8 @@
 use osal_base::{Answer, Bytes, Moment, OsalId, OutOfMemory, Reply, Timeout};
 use osal_call::{Call, Entry, Journal};
 use osal_reading::parse;
-use osal_report::{call_name, end_of_all, report};
-use osal_script::{App, Item};
+use osal_report::{end_of_all, report};
+use osal_script::App;
 use std::alloc::Global;
 use std::process::Abort;
 use std::test::Fail;
@@ -307,42 +307,6 @@ fn a_message_stands_in_quotes(rt: HostRuntime) -> Result<(), Fail> {
         assert!(rt; same, "row {row}");
     }
     Ok(())
-}
-
-/// One line for each call.
-const LINES: &[u8] = b"osal-app 1\ntask main\n\
-    task_create $a \"a\" other 0 0\ntask_exit\ntask_delete $a\ntask_set_priority $a 0\n\
-    task_find $a \"a\"\ntask_info $a\ntask_delay 0\n\
-    queue_create $a \"a\" 1 1\nqueue_delete $a\nqueue_put $a \"a\"\nqueue_get $a 1 pend\n\
-    queue_find $a \"a\"\nqueue_info $a\n\
-    count_sem_create $a \"a\" 0\ncount_sem_give $a\ncount_sem_take $a 1\ncount_sem_delete $a\n\
-    count_sem_find $a \"a\"\ncount_sem_info $a\n\
-    bin_sem_create $a \"a\" 0\nbin_sem_give $a\nbin_sem_flush $a\nbin_sem_take $a check\n\
-    bin_sem_delete $a\nbin_sem_find $a \"a\"\nbin_sem_info $a\n\
-    mut_sem_create $a \"a\"\nmut_sem_take $a\nmut_sem_give $a\nmut_sem_delete $a\n\
-    mut_sem_find $a \"a\"\nmut_sem_info $a\n\
-    condvar_create $a \"a\"\ncondvar_lock $a\ncondvar_unlock $a\ncondvar_signal $a\n\
-    condvar_broadcast $a\ncondvar_wait $a 1\ncondvar_delete $a\ncondvar_find $a \"a\"\n\
-    hold $a\nrelease $a\nend\ntask other\nend\n";
-
-/// Whether an item is a call line, whose name is the first word of these bytes.
-fn is_named(item: &Item, line: &[u8]) -> bool {
-    match item {
-        Item::Call(read) => {
-            line.split(|byte| *byte == b' ').next() == Some(call_name(&read.call))
-        }
-        _ => false,
-    }
-}
-
-#[test]
-fn the_name_of_a_call_begins_its_line(rt: HostRuntime) {
-    let app = app_of(&rt, rt.alloc(), LINES);
-    let lines = LINES.split(|byte| *byte == b'\n').skip(2);
-    for (row, (item, line)) in app.main().items().iter().zip(lines).enumerate() {
-        assert!(rt; is_named(item, line), "row {row}");
-    }
-    assert!(rt; app.main().items().len() == 42);
 }
 
 const NUMBERS: [Shown; 3] = [

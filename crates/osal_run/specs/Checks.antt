@@ -57,6 +57,15 @@ check_name files (Some name) = check_file (files name)
 abbrev pub check_of : Files → List (List ℕ) → Check
 check_of files words = check_name files (file_of words)
 
+-- the words name a file that is there: neither of the first two checks refuses
+abbrev pub IsThere : Check → Type 0
+IsThere (Refused refusal.Usage) = ⊥
+IsThere (Refused refusal.Missing) = ⊥
+IsThere (Refused refusal.Larger) = Unit {0}
+IsThere (Refused (refusal.Unread fault)) = Unit {0}
+IsThere (Refused refusal.Costly) = Unit {0}
+IsThere (Accepted app) = Unit {0}
+
 -- the text of a refused file: the first bad line, and the rule that it breaks
 abbrev pub fault_text : AppFault → List ℕ
 fault_text fault =

@@ -1,14 +1,14 @@
 -- What reading an application's file finds.
-use Rattle.std.specs.Prelude.{◌≡◌, ◌≤◌, ◌<◌, ◌++◌, List, [], ℕ, Option, Some, None, Result, Ok, Err, length}
+use Rattle.std.specs.Prelude.{◌≡◌, ◌≤◌, ◌<◌, ◌++◌, Bool, true, false, List, [], ℕ, Option, Some, None, Result, Ok, Err, length}
 use Rattle.std.specs.declared.vec.Vec.{Vec}
 use Rattle.std.specs.declared.alloc.Global.{Global}
-use Rattle.osal_outside.specs.Shelf.{ShelfContent}
+use Rattle.osal_outside.specs.Shelf.{Files, ShelfContent}
 use Rattle.osal_script.specs.App.{Application}
 use Rattle.osal_run.specs.declared.load.ReadFault.{ReadFault}
 use Rattle.osal_run.specs.declared.load.ReadFault.TheVariants as read_fault
 use Rattle.osal_run.specs.declared.load.Stop.{Stop}
 use Rattle.osal_run.specs.declared.load.Stop.TheVariants as stop
-use Rattle.osal_run.specs.Checks.{Check, Refused, Accepted, file_limit, check_file, check_of}
+use Rattle.osal_run.specs.Checks.{Check, Refused, Accepted, IsThere, file_limit, check_file, check_of}
 
 -- what holds of what is told, if anything is
 abbrev pub IfTold : {A : Type 0} → Option A → (A → Type 0) → Type 0
@@ -30,30 +30,48 @@ abbrev pub seen_bytes : Result (Vec ℕ Global) ReadFault → Result (List ℕ) 
 seen_bytes (Ok bytes) = Ok bytes.items
 seen_bytes (Err fault) = Err fault
 
--- the file was read whole, or is too large
-abbrev pub ReadsFile : Result (List ℕ) ReadFault → ShelfContent → Type 0
-ReadsFile (Ok bytes) content = (bytes ≡ content.rest) × (length bytes ≤ file_limit)
-ReadsFile (Err read_fault.Larger) content = file_limit < length content.rest
-ReadsFile (Err read_fault.Source) content = Unit {0}
-ReadsFile (Err read_fault.Memory) content = Unit {0}
+-- the source failed at a read
+abbrev pub read_fails : {T : Type 0} → Result T ReadFault → Bool
+read_fails (Ok read) = false
+read_fails (Err read_fault.Larger) = false
+read_fails (Err read_fault.Source) = true
+read_fails (Err read_fault.Memory) = false
 
--- the check that a loading stands for; a fault and want of memory stand for none
-abbrev pub checked : Result Application Stop → Option Check
-checked (Ok app) = Some (Accepted app)
-checked (Err (stop.Refused refusal)) = Some (Refused refusal)
-checked (Err stop.Source) = None
-checked (Err stop.Memory) = None
+-- a file of these bytes was read whole, or is too large
+abbrev pub IsReadAs : Result (List ℕ) ReadFault → List ℕ → Type 0
+IsReadAs (Ok read) bytes = (read ≡ bytes) × (length bytes ≤ file_limit)
+IsReadAs (Err read_fault.Larger) bytes = file_limit < length bytes
+IsReadAs (Err read_fault.Source) bytes = Unit {0}
+IsReadAs (Err read_fault.Memory) bytes = Unit {0}
 
--- what was loaded is what the check of the open file finds
-abbrev pub LoadsFile : Result Application Stop → ShelfContent → Type 0
-LoadsFile (Ok app) content = check_file (Some content.rest) ≡ Accepted app
-LoadsFile (Err (stop.Refused refusal)) content = check_file (Some content.rest) ≡ Refused refusal
-LoadsFile (Err stop.Source) content = Unit {0}
-LoadsFile (Err stop.Memory) content = Unit {0}
+-- the open file was read: it has some bytes, those that the shelf tells where it tells any
+pub record ReadsFile (content : Option ShelfContent) (result : Result (List ℕ) ReadFault) : Type 0 where
+  pub bytes : List ℕ
+  pub told : IfTold content (λ told. told.rest ≡ bytes)
+  pub read : IsReadAs result bytes
 
--- what was loaded is what the checks find
-abbrev pub LoadsAs : Result Application Stop → List (List ℕ) → ShelfContent → Type 0
-LoadsAs (Ok app) words content = check_of content.files words ≡ Accepted app
-LoadsAs (Err (stop.Refused refusal)) words content = check_of content.files words ≡ Refused refusal
-LoadsAs (Err stop.Source) words content = Unit {0}
-LoadsAs (Err stop.Memory) words content = Unit {0}
+-- the source failed at the opening or at a read
+abbrev pub loading_fails : Result Application Stop → Bool
+loading_fails (Ok app) = false
+loading_fails (Err (stop.Refused refusal)) = false
+loading_fails (Err stop.Source) = true
+loading_fails (Err stop.Memory) = false
+
+-- what was loaded is what the checks find; the source fails only at a file that is there
+abbrev pub IsFound : Result Application Stop → Check → Type 0
+IsFound (Ok app) check = check ≡ Accepted app
+IsFound (Err (stop.Refused refusal)) check = check ≡ Refused refusal
+IsFound (Err stop.Source) check = IsThere check
+IsFound (Err stop.Memory) check = Unit {0}
+
+-- the open file was loaded: it has some bytes, those that the shelf tells where it tells any
+pub record LoadsFile (content : Option ShelfContent) (result : Result Application Stop) : Type 0 where
+  pub bytes : List ℕ
+  pub told : IfTold content (λ told. told.rest ≡ bytes)
+  pub found : IsFound result (check_file (Some bytes))
+
+-- the words were loaded: there are some files, those that the shelf tells where it tells any
+pub record Loads (content : Option ShelfContent) (words : List (List ℕ)) (result : Result Application Stop) : Type 0 where
+  pub files : Files
+  pub told : IfTold content (λ told. told.files ≡ files)
+  pub found : IsFound result (check_of files words)

@@ -1,8 +1,8 @@
 -- What a run leaves, by its exit status.
-use Rattle.std.specs.Prelude.{◌≡◌, ◌⊎◌, ◌++◌, List, [], ℕ, Option, Some, None}
-use Rattle.osal_outside.specs.Causes.{WhereTold}
-use Rattle.osal_outside.specs.Shelf.{ShelfContent}
-use Rattle.osal_outside.specs.Sink.{AppendsPrefix}
+use Rattle.std.specs.Prelude.{◌≡◌, ◌⊎◌, ◌==◌, List, [], ℕ, Option}
+use Rattle.osal_outside.specs.Causes.{RoseIf, WhereTold}
+use Rattle.osal_outside.specs.Shelf.{Files, ShelfContent}
+use Rattle.osal_outside.specs.Sink.{Appends, AppendsPrefix}
 use Rattle.osal_call.specs.declared.call.Entry.{Entry}
 use Rattle.osal_script.specs.App.{Application}
 use Rattle.osal_runs.specs.Runs.{IsPartRun, IsRun}
@@ -10,7 +10,8 @@ use Rattle.osal_report.specs.Report.{report_text}
 use Rattle.osal_report.specs.Status.{status_of}
 use Rattle.osal_run.specs.declared.exit.Exit.{Exit}
 use Rattle.osal_run.specs.declared.exit.Exit.TheVariants as exit
-use Rattle.osal_run.specs.Checks.{Check, Refused, Accepted, check_of, refusal_text}
+use Rattle.osal_run.specs.Checks.{Check, Refused, Accepted, IsThere, check_of, refusal_text}
+use Rattle.osal_run.specs.Loading.{IfTold}
 
 -- the number of an exit status
 abbrev pub exit_number : Exit → ℕ
@@ -26,57 +27,72 @@ exit_number exit.NoMemory = 6
 abbrev pub IsStatus : ℕ → Type 0
 IsStatus status = (status ≡ 0) ⊎ ((status ≡ 1) ⊎ (status ≡ 3))
 
+-- what a sink tells of the bytes written, if it tells any
+abbrev pub Written : Type 0
+Written = Option (List ℕ)
+
 -- a whole run of the application: the journal is a run, its report is written, and the status is its own
-pub record IsWholeRun (app : Application) (status : ℕ) (entries : List Entry) (before after : List ℕ) : Type 0 where
+pub record IsWholeRun (app : Application) (status : ℕ) (entries : List Entry) (before after : Written) : Type 0 where
   pub run : IsRun app entries
   pub own : status_of app entries ≡ status
-  pub written : after ≡ before ++ report_text app entries
+  pub written : WhereTold before after (Appends (report_text app entries))
 
 -- the application was accepted and run
-abbrev pub IsDone : ℕ → Check → List Entry → List ℕ → List ℕ → Type 0
+abbrev pub IsDone : ℕ → Check → List Entry → Written → Written → Type 0
 IsDone status (Accepted app) entries before after = IsWholeRun app status entries before after
 IsDone status (Refused refusal) entries before after = ⊥
 
 -- a check has refused: there are no entries, and its text is written
-abbrev pub IsRefused : Check → List Entry → List ℕ → List ℕ → Type 0
+abbrev pub IsRefused : Check → List Entry → Written → Written → Type 0
 IsRefused (Accepted app) entries before after = ⊥
-IsRefused (Refused refusal) entries before after = (entries ≡ []) × (after ≡ before ++ refusal_text refusal)
+IsRefused (Refused refusal) entries before after =
+    (entries ≡ []) × WhereTold before after (Appends (refusal_text refusal))
 
--- the source has failed: there are no entries, and nothing is written
-abbrev pub IsUntouched : List Entry → List ℕ → List ℕ → Type 0
-IsUntouched entries before after = (entries ≡ []) × (after ≡ before)
+-- the source has failed, at a file that is there: there are no entries, and nothing is written
+pub record IsUnread (check : Check) (entries : List Entry) (before after : Written) : Type 0 where
+  pub there : IsThere check
+  pub empty : entries ≡ []
+  pub still : after ≡ before
 
--- a run that was cut short: the journal is a part run, and a prefix of the text is written
-abbrev pub IsCutShort : Check → List Entry → List ℕ → List ℕ → Type 0
+-- the sink has failed: an accepted application was run whole, and a prefix of the text is written
+abbrev pub IsHalfWritten : Check → List Entry → Written → Written → Type 0
+IsHalfWritten (Accepted app) entries before after =
+    IsRun app entries × WhereTold before after (AppendsPrefix (report_text app entries))
+IsHalfWritten (Refused refusal) entries before after =
+    (entries ≡ []) × WhereTold before after (AppendsPrefix (refusal_text refusal))
+
+-- there was no memory to go on: the journal is a part run, and a prefix of the text is written
+abbrev pub IsCutShort : Check → List Entry → Written → Written → Type 0
 IsCutShort (Accepted app) entries before after =
-    IsPartRun app entries × AppendsPrefix (report_text app entries) before after
+    IsPartRun app entries × WhereTold before after (AppendsPrefix (report_text app entries))
 IsCutShort (Refused refusal) entries before after =
-    (entries ≡ []) × AppendsPrefix (refusal_text refusal) before after
+    (entries ≡ []) × WhereTold before after (AppendsPrefix (refusal_text refusal))
 
 -- what the journal is, and what was written, by the exit status and what the checks find
-abbrev pub Leaves : Exit → Check → List Entry → List ℕ → List ℕ → Type 0
+abbrev pub Leaves : Exit → Check → List Entry → Written → Written → Type 0
 Leaves exit.Passed check entries before after = IsDone 0 check entries before after
 Leaves exit.Failed check entries before after = IsDone 1 check entries before after
 Leaves exit.Refused check entries before after = IsRefused check entries before after
 Leaves exit.Stalled check entries before after = IsDone 3 check entries before after
-Leaves exit.SourceFault check entries before after = IsUntouched entries before after
-Leaves exit.SinkFault check entries before after = IsCutShort check entries before after
+Leaves exit.SourceFault check entries before after = IsUnread check entries before after
+Leaves exit.SinkFault check entries before after = IsHalfWritten check entries before after
 Leaves exit.NoMemory check entries before after = IsCutShort check entries before after
 
--- what a run leaves that ends by this exit, on a shelf of these files
-abbrev pub LeavesFor : Exit → List (List ℕ) → List Entry → ShelfContent → List ℕ → List ℕ → Type 0
-LeavesFor exit words entries content before after =
-    Leaves exit (check_of content.files words) entries before after
+-- what a run leaves that ends by this exit: there are some files, those that the shelf tells where it tells any
+pub record LeavesFor (ended : Exit) (content : Option ShelfContent) (words : List (List ℕ)) (entries : List Entry) (before after : Written) : Type 0 where
+  pub files : Files
+  pub told : IfTold content (λ told. told.files ≡ files)
+  pub left : Leaves ended (check_of files words) entries before after
 
 -- the same, by the number of the exit
-abbrev pub LeavesBy : ℕ → List (List ℕ) → List Entry → ShelfContent → List ℕ → List ℕ → Type 0
-LeavesBy status words entries content before after =
-    (exit : Exit) × (exit_number exit ≡ status) × LeavesFor exit words entries content before after
+abbrev pub LeavesBy : ℕ → Option ShelfContent → List (List ℕ) → List Entry → Written → Written → Type 0
+LeavesBy status content words entries before after =
+    (ended : Exit) × (exit_number ended ≡ status) × LeavesFor ended content words entries before after
 
--- what holds where the shelf tells its files and the sink tells its bytes, before and after
-abbrev pub WhereBothTold : Option ShelfContent → Option (List ℕ) → Option (List ℕ) → (ShelfContent → List ℕ → List ℕ → Type 0) → Type 0
-WhereBothTold None before after holds = Unit {0}
-WhereBothTold (Some content) before after holds = WhereTold before after (holds content)
+-- the status is 4 if the source failed and 5 if the sink did, and no other tells of a fault
+pub record TellsFaults (status source_before source_now sink_before sink_now : ℕ) : Type 0 where
+  pub source : RoseIf (status == 4) source_before source_now
+  pub sink : RoseIf (status == 5) sink_before sink_now
 
 -- the exits of a run that came to its end
 abbrev pub IsFinished : Exit → Type 0
@@ -87,20 +103,6 @@ IsFinished exit.Refused = ⊥
 IsFinished exit.SourceFault = ⊥
 IsFinished exit.SinkFault = ⊥
 IsFinished exit.NoMemory = ⊥
-
--- an accepted application is run, and a refused one is refused, unless something outside fails
-abbrev pub ExitFits : Exit → Check → Type 0
-ExitFits exit.Passed (Accepted app) = Unit {0}
-ExitFits exit.Failed (Accepted app) = Unit {0}
-ExitFits exit.Stalled (Accepted app) = Unit {0}
-ExitFits exit.Refused (Accepted app) = ⊥
-ExitFits exit.Passed (Refused refusal) = ⊥
-ExitFits exit.Failed (Refused refusal) = ⊥
-ExitFits exit.Stalled (Refused refusal) = ⊥
-ExitFits exit.Refused (Refused refusal) = Unit {0}
-ExitFits exit.SourceFault check = Unit {0}
-ExitFits exit.SinkFault check = Unit {0}
-ExitFits exit.NoMemory check = Unit {0}
 
 -- completeness: where neither source nor sink fails, an accepted application ends with its journal's
 -- status and a refused one with 2, or there was no memory

@@ -1,11 +1,10 @@
 //! From the words to an application: the checks before a run, in their order.
-ghost use Rattle.std.specs.Prelude.{◌≡◌, ◌<◌, ◌≤◌, ◌+◌, map, length, IfOk, Err, Some, string_bytes, option_copied};
-ghost use Rattle.osal_outside.specs.Causes.{Rose, WhereTold};
+ghost use Rattle.std.specs.Prelude.{◌≡◌, ◌<◌, ◌≤◌, ◌+◌, map, length, false, IfOk, Err, None, string_bytes, option_copied};
+ghost use Rattle.osal_outside.specs.Causes.{RoseIf, WhereTold};
 ghost use Rattle.osal_script.specs.Cost.{cost_of};
 ghost use Rattle.osal_run.specs.Checks.{file_name as name_in, file_of, cost_limit, check_cost};
-ghost use Rattle.osal_run.specs.Loading.{IfTold, checked, ReadsPiece, ReadsFile, LoadsAs, LoadsFile, seen_bytes};
+ghost use Rattle.osal_run.specs.Loading.{IsFound, ReadsPiece, ReadsFile, Loads, LoadsFile, loading_fails, read_fails, seen_bytes};
 ghost use Rattle.osal_run.specs.declared.load.ReadFault.TheVariants as read_fault;
-ghost use Rattle.osal_run.specs.declared.load.Stop.TheVariants as stop;
 
 use crate::Refusal;
 use osal_base::OutOfMemory;
@@ -75,8 +74,7 @@ fn read_piece<S: Shelf>(
     ensures grown { IfOk result (λ n. length bytes.new.items ≡ length bytes.old.items + n) }
     ensures told { IfOk result (λ n. WhereTold (S.content shelf.old) (S.content shelf.new) (ReadsPiece n bytes.old.items bytes.new.items)) }
     ensures larger { result ≡ Err read_fault.Larger → ⊥ }
-    ensures later { S.faults shelf.old ≤ S.faults shelf.new }
-    ensures cause { result ≡ Err read_fault.Source → Rose (S.faults shelf.old) (S.faults shelf.new) }
+    ensures cause { RoseIf (read_fails result) (S.faults shelf.old) (S.faults shelf.new) }
 {
     let n = match shelf.read(piece) {
         Ok(n) => n,
@@ -100,8 +98,7 @@ fn read_within<S: Shelf>(
     ensures grown { IfOk result (λ n. length bytes.new.items ≡ length bytes.old.items + n) }
     ensures told { IfOk result (λ n. WhereTold (S.content shelf.old) (S.content shelf.new) (ReadsPiece n bytes.old.items bytes.new.items)) }
     ensures larger { result ≡ Err read_fault.Larger → ⊥ }
-    ensures later { S.faults shelf.old ≤ S.faults shelf.new }
-    ensures cause { result ≡ Err read_fault.Source → Rose (S.faults shelf.old) (S.faults shelf.new) }
+    ensures cause { RoseIf (read_fails result) (S.faults shelf.old) (S.faults shelf.new) }
 {
     if bytes.len() + chunk.len() <= FILE_LIMIT {
         read_piece(shelf, bytes, chunk)
@@ -113,10 +110,9 @@ fn read_within<S: Shelf>(
 
 /// Reads the open file to its end, at least one byte a turn, and at most one byte more than an application may have.
 fn read_file<S: Shelf>(alloc: Global, shelf: &mut S) -> Result<Vec<u8>, ReadFault>
-    ensures told { IfTold (S.content shelf.old) (ReadsFile (seen_bytes result)) }
+    ensures told { ReadsFile (S.content shelf.old) (seen_bytes result) }
     ensures short { IfOk result (λ bytes. length bytes.items ≤ 1048576) }
-    ensures later { S.faults shelf.old ≤ S.faults shelf.new }
-    ensures cause { result ≡ Err read_fault.Source → Rose (S.faults shelf.old) (S.faults shelf.new) }
+    ensures cause { RoseIf (read_fails result) (S.faults shelf.old) (S.faults shelf.new) }
 {
     let mut bytes = Vec::new(alloc);
     let mut chunk = [0; CHUNK];
@@ -131,10 +127,10 @@ fn read_file<S: Shelf>(alloc: Global, shelf: &mut S) -> Result<Vec<u8>, ReadFaul
 
 /// Loads the application that the words name: the words, the opening, the reading, the size, the text, the cost.
 pub(crate) fn load<S: Shelf>(alloc: Global, words: &[String], shelf: &mut S) -> Result<App, Stop>
-    ensures told { IfTold (S.content shelf.old) (LoadsAs result (map string_bytes words.now)) }
+    ensures told { Loads (S.content shelf.old) (map string_bytes words.now) result }
     ensures cost { IfOk result (λ app. cost_of app ≤ cost_limit) }
-    ensures later { S.faults shelf.old ≤ S.faults shelf.new }
-    ensures cause { result ≡ Err stop.Source → Rose (S.faults shelf.old) (S.faults shelf.new) }
+    ensures cause { RoseIf (loading_fails result) (S.faults shelf.old) (S.faults shelf.new) }
+    ensures untouched { file_of (map string_bytes words.now) ≡ None → shelf.new ≡ shelf.old }
 {
     let Some(name) = file_word(words) else {
         return Err(Stop::Refused(Refusal::Usage));
@@ -149,9 +145,9 @@ pub(crate) fn load<S: Shelf>(alloc: Global, words: &[String], shelf: &mut S) -> 
 
 /// An application, unless it costs too much.
 fn within_cost(app: App) -> Result<App, Stop>
-    ensures check { checked result ≡ Some (check_cost app) }
+    ensures check { IsFound result (check_cost app) }
     ensures cost { IfOk result (λ app. cost_of app ≤ cost_limit) }
-    ensures source { result ≡ Err stop.Source → ⊥ }
+    ensures calm { loading_fails result ≡ false }
 {
     if COST_LIMIT < app.cost() {
         return Err(Stop::Refused(Refusal::Costly));
@@ -161,10 +157,9 @@ fn within_cost(app: App) -> Result<App, Stop>
 
 /// Loads the application in the open file.
 fn load_open<S: Shelf>(alloc: Global, shelf: &mut S) -> Result<App, Stop>
-    ensures told { IfTold (S.content shelf.old) (LoadsFile result) }
+    ensures told { LoadsFile (S.content shelf.old) result }
     ensures cost { IfOk result (λ app. cost_of app ≤ cost_limit) }
-    ensures later { S.faults shelf.old ≤ S.faults shelf.new }
-    ensures cause { result ≡ Err stop.Source → Rose (S.faults shelf.old) (S.faults shelf.new) }
+    ensures cause { RoseIf (loading_fails result) (S.faults shelf.old) (S.faults shelf.new) }
 {
     let bytes = match read_file(alloc, shelf) {
         Ok(bytes) => bytes,

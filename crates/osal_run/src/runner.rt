@@ -1,13 +1,11 @@
 //! The top call.
-ghost use Rattle.std.specs.Prelude.{◌≡◌, ◌<◌, ◌≤◌, [], map, OnOk, string_bytes};
-ghost use Rattle.osal_outside.specs.Causes.{HasCause, Rose, WhereTold};
+ghost use Rattle.std.specs.Prelude.{◌≡◌, ◌==◌, ◌≤◌, [], false, None, map, OnOk, string_bytes};
+ghost use Rattle.osal_outside.specs.Causes.{HasCause, Rose, RoseIf, WhereTold};
 ghost use Rattle.osal_outside.specs.Sink.{Appends, AppendsPrefix};
 ghost use Rattle.osal_script.specs.Cost.{cost_of};
-ghost use Rattle.osal_runs.specs.Runs.{IsPartRun, IsRun};
-ghost use Rattle.osal_run.specs.Checks.{Accepted, Refused, check_of, cost_limit, refusal_text};
-ghost use Rattle.osal_run.specs.Outcome.{exit_number, Leaves, LeavesFor, LeavesBy, WhereBothTold, IsFinished, IsStatus, ExitFits, Completes};
+ghost use Rattle.osal_run.specs.Checks.{Accepted, Refused, check_of, cost_limit, file_of};
+ghost use Rattle.osal_run.specs.Outcome.{exit_number, Leaves, LeavesFor, LeavesBy, IsFinished, IsStatus, TellsFaults, Completes};
 ghost use Rattle.osal_run.specs.Loading.{IfTold};
-ghost use Rattle.osal_run.specs.declared.exit.Exit.TheVariants as exit;
 
 use crate::load::{Stop, load};
 use crate::{Exit, Refusal};
@@ -22,6 +20,7 @@ use std::alloc::Global;
 fn write_text<K: Sink>(sink: &mut K, text: &[u8]) -> Result<(), WriteFailed>
     ensures all { OnOk result (WhereTold (K.written sink.old) (K.written sink.new) (Appends text.now)) }
     ensures prefix { WhereTold (K.written sink.old) (K.written sink.new) (AppendsPrefix text.now) }
+    ensures handed { OnOk result (K.flushed sink.new ≡ K.written sink.new) }
     ensures cause { HasCause (K.faults sink.old) (K.faults sink.new) result }
 {
     send_all(sink, text)?;
@@ -30,10 +29,10 @@ fn write_text<K: Sink>(sink: &mut K, text: &[u8]) -> Result<(), WriteFailed>
 
 /// Tells why a run is refused.
 fn refuse<K: Sink>(alloc: Global, refusal: Refusal, sink: &mut K) -> Exit
-    ensures told { WhereTold (K.written sink.old) (K.written sink.new) (Leaves result (Refused refusal) []) }
-    ensures fits { ExitFits result (Refused refusal) }
-    ensures cause { result ≡ exit.SinkFault → Rose (K.faults sink.old) (K.faults sink.new) }
-    ensures source { result ≡ exit.SourceFault → ⊥ }
+    ensures left { Leaves result (Refused refusal) [] (K.written sink.old) (K.written sink.new) }
+    ensures handed { exit_number result ≤ 3 → K.flushed sink.new ≡ K.written sink.new }
+    ensures sink { RoseIf (exit_number result == 5) (K.faults sink.old) (K.faults sink.new) }
+    ensures source { (exit_number result == 4) ≡ false }
 {
     let Ok(text) = refusal.text(alloc) else {
         return Exit::NoMemory;
@@ -54,10 +53,10 @@ fn execute<K: Sink, G: Gate>(
 ) -> Exit
     requires cost { cost_of app.now ≤ cost_limit }
     requires empty { journal.old.entries ≡ [] }
-    ensures told { WhereTold (K.written sink.old) (K.written sink.new) (Leaves result (Accepted app.now) journal.new.entries) }
-    ensures fits { ExitFits result (Accepted app.now) }
-    ensures cause { result ≡ exit.SinkFault → Rose (K.faults sink.old) (K.faults sink.new) }
-    ensures source { result ≡ exit.SourceFault → ⊥ }
+    ensures left { Leaves result (Accepted app.now) journal.new.entries (K.written sink.old) (K.written sink.new) }
+    ensures handed { exit_number result ≤ 3 → K.flushed sink.new ≡ K.written sink.new }
+    ensures sink { RoseIf (exit_number result == 5) (K.faults sink.old) (K.faults sink.new) }
+    ensures source { (exit_number result == 4) ≡ false }
 {
     match drive(alloc, app, gate, journal) {
         Outcome::Settled => {}
@@ -89,7 +88,7 @@ fn finished(status: u8) -> Exit
 ///
 /// The words are one word FILE. The checks come in this order: the words, the opening, the reading,
 /// the size, the text, the cost. The journal is emptied first; at a refusal and a fault of the source it stays
-/// empty. All texts go to the sink.
+/// empty. All texts go to the sink, and are handed on.
 pub fn run<S: Shelf, K: Sink, G: Gate>(
     alloc: Global,
     words: &[String],
@@ -98,16 +97,20 @@ pub fn run<S: Shelf, K: Sink, G: Gate>(
     gate: &G,
     journal: &mut Journal,
 ) -> u8
-    // The journal, the bytes written and the status, where shelf and sink tell their contents.
-    ensures leaves { WhereBothTold (S.content shelf.old) (K.written sink.old) (K.written sink.new)
-        (LeavesBy result (map string_bytes words.now) journal.new.entries) }
+    // The status, the journal and the bytes written, by some files: those that the shelf tells, where it tells any.
+    ensures leaves { LeavesBy result (S.content shelf.old) (map string_bytes words.now)
+        journal.new.entries (K.written sink.old) (K.written sink.new) }
     // Where nothing outside fails, an accepted application is run and a refused one is refused.
     ensures complete { IfTold (S.content shelf.old) (λ content. Completes result
         (Rose (S.faults shelf.old) (S.faults shelf.new)) (Rose (K.faults sink.old) (K.faults sink.new))
         (check_of content.files (map string_bytes words.now))) }
-    // A fault is answered only where its count rose in this call.
-    ensures source { result ≡ 4 → Rose (S.faults shelf.old) (S.faults shelf.new) }
-    ensures sink { result ≡ 5 → Rose (K.faults sink.old) (K.faults sink.new) }
+    // A fault is answered exactly where its count rose in this call.
+    ensures faults { TellsFaults result
+        (S.faults shelf.old) (S.faults shelf.new) (K.faults sink.old) (K.faults sink.new) }
+    // A text that was written whole is handed on.
+    ensures handed { result ≤ 3 → K.flushed sink.new ≡ K.written sink.new }
+    // Words that name no file are refused before the shelf is asked.
+    ensures untouched { file_of (map string_bytes words.now) ≡ None → shelf.new ≡ shelf.old }
 {
     run_exit(alloc, words, shelf, sink, gate, journal).number()
 }
@@ -120,11 +123,12 @@ fn run_exit<S: Shelf, K: Sink, G: Gate>(
     gate: &G,
     journal: &mut Journal,
 ) -> Exit
-    ensures leaves { WhereBothTold (S.content shelf.old) (K.written sink.old) (K.written sink.new)
-        (LeavesFor result (map string_bytes words.now) journal.new.entries) }
-    ensures fits { IfTold (S.content shelf.old) (λ content. ExitFits result (check_of content.files (map string_bytes words.now))) }
-    ensures source { result ≡ exit.SourceFault → Rose (S.faults shelf.old) (S.faults shelf.new) }
-    ensures sink { result ≡ exit.SinkFault → Rose (K.faults sink.old) (K.faults sink.new) }
+    ensures leaves { LeavesFor result (S.content shelf.old) (map string_bytes words.now)
+        journal.new.entries (K.written sink.old) (K.written sink.new) }
+    ensures faults { TellsFaults (exit_number result)
+        (S.faults shelf.old) (S.faults shelf.new) (K.faults sink.old) (K.faults sink.new) }
+    ensures handed { exit_number result ≤ 3 → K.flushed sink.new ≡ K.written sink.new }
+    ensures untouched { file_of (map string_bytes words.now) ≡ None → shelf.new ≡ shelf.old }
 {
     journal.clear();
     match load(alloc, words, shelf) {

@@ -6,17 +6,14 @@ use Rattle.std.proofs.lemmas.Bool.{cond_both, cond-false, cases_Bool, false≢tr
 use Rattle.osal_base.specs.Limits.{version1}
 use Rattle.osal_base.specs.Reply.{Replied}
 use Rattle.osal_call.specs.Firing.{timer_limit}
+use Rattle.osal_call.specs.declared.word.NumberWord.TheVariants as number_word
 use Rattle.osal_line.specs.declared.kind.BodyKind.{BodyKind}
 use Rattle.osal_line.specs.declared.kind.BodyKind.TheVariants as kind
 use Rattle.osal_line.specs.declared.line.ScriptCall.{ScriptCall}
 use Rattle.osal_line.specs.declared.line.ScriptCall.TheVariants as script_call
-use Rattle.osal_line.specs.declared.tasks.TaskCall.{TaskCall}
-use Rattle.osal_line.specs.declared.tasks.TaskCall.TheVariants as task_line
-use Rattle.osal_line.specs.declared.timebases.TimebaseCall.{TimebaseCall}
-use Rattle.osal_line.specs.declared.timebases.TimebaseCall.TheVariants as timebase_line
 use Rattle.osal_line.specs.declared.line.Line.{Line}
-use Rattle.osal_line.specs.Bare.{is_task_creation, is_tick, is_tick_line, IsBare}
-use Rattle.osal_price.specs.Price.{Prices, task_cost, timebase_cost, line_cost}
+use Rattle.osal_line.specs.Bare.{is_tick_line, IsBare}
+use Rattle.osal_price.specs.Price.{Prices, line_cost}
 use Rattle.osal_script.specs.declared.item.Item.{Item}
 use Rattle.osal_script.specs.declared.item.Item.TheVariants as item
 use Rattle.osal_script.specs.App.{ScriptBody, lines_of, ItemIsBare, HandlerIsBare}
@@ -52,18 +49,11 @@ item_bare (item.Repeat count) bare = tt
 item_bare item.End bare = tt
 
 module _ (prices : Prices) where
-  task_bare : (made : TaskCall) → is_task_creation made ≡ false → task_cost prices made ≡ task_cost no_prices made
-  task_bare (task_line.Create register name body stack priority) bare = absurd (false≢true (sym bare))
-  task_bare _ bare = refl
-
-  timebase_bare : (made : TimebaseCall) → is_tick made ≡ false → timebase_cost prices made ≡ timebase_cost no_prices made
-  timebase_bare (timebase_line.Tick id usecs) bare = absurd (false≢true (sym bare))
-  timebase_bare _ bare = refl
-
   -- a bare line costs the same whatever the prices
   line_bare : (line : ScriptCall) → IsBare line → line_cost prices line ≡ line_cost no_prices line
-  line_bare (script_call.Task made) bare = ap (λ n. 2 + n) (task_bare made bare)
-  line_bare (script_call.Timebase made) bare = ap (λ n. 2 + n) (timebase_bare made bare)
+  line_bare (script_call.TaskCreate register name body stack priority) bare = absurd bare
+  line_bare (script_call.Number number_word.TimebaseTick id amount) bare = absurd (false≢true (sym bare))
+  line_bare (script_call.Number number_word.TaskSetPriority id amount) bare = refl
   line_bare _ bare = refl
 
   sum_bare : (lines : List Line) → AllByRecursion (λ (line : Line). IsBare line.call) lines → sum_cost prices lines ≡ sum_cost no_prices lines
@@ -117,8 +107,8 @@ fired_none bodies next reply none =
     (ap (λ b. is_of_body next.frame && b && is_success reply.answer) none ∙ both_never (is_of_body next.frame) (is_success reply.answer))
 
 tick_line_cost : (prices : Prices) (line : ScriptCall) → is_tick_line line ≡ true → line_cost prices line ≡ 2 + prices.tick
-tick_line_cost prices (script_call.Timebase (timebase_line.Tick id usecs)) tick = refl
-tick_line_cost prices (script_call.Timebase _) tick = absurd (false≢true tick)
+tick_line_cost prices (script_call.Number number_word.TimebaseTick id amount) tick = refl
+tick_line_cost prices (script_call.Number number_word.TaskSetPriority id amount) tick = absurd (false≢true tick)
 tick_line_cost prices _ tick = absurd (false≢true tick)
 
 -- a line costs its checkpoint, its call, and what it puts in

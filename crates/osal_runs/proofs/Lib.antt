@@ -1,9 +1,10 @@
 pub mod Segments
 pub mod Joining
+pub mod Chain
 pub mod TaskCalls
 pub mod Creating
 pub mod LineCalls
-pub mod Families
+pub mod MadeByLines
 pub mod ScriptCalls
 pub mod Linking
 pub mod LinkedSteps
@@ -17,6 +18,7 @@ pub mod UnderWay
 pub mod LineCosts
 pub mod HandlerCosts
 pub mod Ticks
+pub mod ReadWhole
 pub mod Spending
 pub mod Paying
 pub mod Advancing

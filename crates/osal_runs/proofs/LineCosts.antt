@@ -1,15 +1,12 @@
 -- The cost of a body is that of its lines with the repeats written out, and of the bodies that they name.
 use Rattle.std.proofs.Common.{◌≡◌, ◌<◌, ◌+◌, ◌-◌, ◌*◌, ◌++◌, ℕ, zero, suc, List, [], ◌∷◌, length, map, Some, slice_get, slice_index, refl, sym, ap, ◌∙◌, arith}
 use Rattle.std.specs.List.{AllByRecursion}
+use Rattle.osal_call.specs.declared.word.NumberWord.TheVariants as number_word
 use Rattle.osal_line.specs.declared.line.ScriptCall.{ScriptCall}
 use Rattle.osal_line.specs.declared.line.ScriptCall.TheVariants as script_call
-use Rattle.osal_line.specs.declared.tasks.TaskCall.{TaskCall}
-use Rattle.osal_line.specs.declared.tasks.TaskCall.TheVariants as task_line
-use Rattle.osal_line.specs.declared.timebases.TimebaseCall.{TimebaseCall}
-use Rattle.osal_line.specs.declared.timebases.TimebaseCall.TheVariants as timebase_line
 use Rattle.osal_line.specs.declared.line.Line.{Line}
-use Rattle.osal_line.specs.Between.{TaskNamesBetween, NamesBetween}
-use Rattle.osal_price.specs.Price.{Prices, task_cost, timebase_cost, line_cost}
+use Rattle.osal_line.specs.Between.{NamesBetween}
+use Rattle.osal_price.specs.Price.{Prices, line_cost}
 use Rattle.osal_script.specs.declared.item.Item.{Item}
 use Rattle.osal_script.specs.declared.item.Item.TheVariants as item
 use Rattle.osal_script.specs.App.{ScriptBody, Application, times, first_of_levels, onto_level, repeated, levels_of, lines_of, ItemNames, NamesLaterFrom, NamesLater}
@@ -72,17 +69,10 @@ module _ (prices : Prices) where
   body_sum body = ap (λ n. n + 2) (items_sum body ∙ sym (pending_sum OfBody (lines_of body)))
 
 module _ (prices other : Prices) (number : ℕ) (bodies : (body : ℕ) → number < body → prices.body body ≡ other.body body) (tick : prices.tick ≡ other.tick) where
-  task_same : (count : ℕ) (made : TaskCall) → TaskNamesBetween number count made → task_cost prices made ≡ task_cost other made
-  task_same count (task_line.Create register name body stack priority) names = ap (λ n. 8 + n) (bodies body names.0)
-  task_same count _ names = refl
-
-  timebase_same : (made : TimebaseCall) → timebase_cost prices made ≡ timebase_cost other made
-  timebase_same (timebase_line.Tick id usecs) = tick
-  timebase_same _ = refl
-
   line_same : (count : ℕ) (made : ScriptCall) → NamesBetween number count made → line_cost prices made ≡ line_cost other made
-  line_same count (script_call.Task made) names = ap (λ n. 2 + n) (task_same count made names)
-  line_same count (script_call.Timebase made) names = ap (λ n. 2 + n) (timebase_same made)
+  line_same count (script_call.TaskCreate register name body stack priority) names = ap (λ n. 2 + (8 + n)) (bodies body names.0)
+  line_same count (script_call.Number number_word.TimebaseTick id amount) names = ap (λ n. 2 + n) tick
+  line_same count (script_call.Number number_word.TaskSetPriority id amount) names = refl
   line_same count _ names = refl
 
   levels_same : (count : ℕ) (items : List Item) → AllByRecursion (ItemNames number count) items → level_costs prices items ≡ level_costs other items

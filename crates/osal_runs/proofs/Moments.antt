@@ -3,7 +3,7 @@ use Rattle.std.proofs.Common.{◌≡◌, ℕ, false, refl, sym}
 use Rattle.std.proofs.lemmas.Bool.{false≢true}
 use Rattle.osal_base.specs.declared.time.Moment.{Moment}
 use Rattle.osal_time.specs.Time.{TimeState, TimeCall, is_timer, done}
-use Rattle.osal_machine.specs.Parts.{time_step}
+use Rattle.osal_time.specs.Calls.{time_step}
 use Rattle.osal_call.specs.declared.call.Call.{Call}
 use Rattle.osal_call.specs.declared.call.Call.TheVariants as call
 use Rattle.osal_object.proofs.Moves.{either}

@@ -10,13 +10,12 @@ use Rattle.osal_call.specs.declared.call.Call.TheVariants as call
 use Rattle.osal_call.specs.declared.call.Entry.{Entry}
 use Rattle.osal_line.specs.declared.line.ScriptCall.{ScriptCall}
 use Rattle.osal_line.specs.declared.line.ScriptCall.TheVariants as script_call
-use Rattle.osal_line.specs.declared.tasks.TaskCall.{TaskCall}
-use Rattle.osal_line.specs.declared.tasks.TaskCall.TheVariants as task_line
 use Rattle.osal_line.specs.declared.line.Line.{Line}
-use Rattle.osal_line.specs.Between.{TaskNamesBetween, NamesBetween}
-use Rattle.osal_line.specs.Calls.{task_call, call_of}
+use Rattle.osal_line.specs.Between.{NamesBetween}
+use Rattle.osal_line.specs.Calls.{call_of}
 use Rattle.osal_script.specs.declared.item.Item.{Item}
 use Rattle.osal_script.specs.declared.item.Item.TheVariants as item
+use Rattle.osal_script.specs.Cost.{no_prices}
 use Rattle.osal_script.specs.App.{ScriptBody, Application, lines_of, ItemNames, NamesLaterFrom, NamesLater}
 use Rattle.osal_script.specs.Script.{Pending, Frames, ScriptState, start_of, line_call, after_entry}
 use Rattle.osal_runs.specs.Segments.{Segment, script_in, joined}
@@ -24,7 +23,7 @@ use Rattle.osal_runs.specs.Linked.{no_script, newest_script, is_creation}
 use Rattle.osal_runs.proofs.Segments.{reached_push, bodies_after, newest_all}
 use Rattle.osal_runs.proofs.Joining.{all_joined}
 use Rattle.osal_runs.proofs.Pending.{OfItem, lines_all, EachLine, OfPending, in_body_all, after_all}
-use Rattle.osal_runs.proofs.Families.{queue_plain, count_sem_plain, bin_sem_plain, mutex_plain, condvar_plain, timebase_plain, timer_plain}
+use Rattle.osal_runs.proofs.MadeByLines.{line_made}
 
 -- what holds of each holds of each in weaker form
 pub all_weaker : {X : Type 0} (P Q : X → Type 0) (xs : List X) → ((x : X) → P x → Q x) → AllByRecursion P xs → AllByRecursion Q xs
@@ -48,22 +47,13 @@ later_at number count (first ∷ bodies) (suc i) body later is =
     let n : number + 1 + i ≡ number + suc i = omega arith in
     subst (λ m. AllByRecursion (ItemNames m count) body.items) n (later_at (number + 1) count bodies i body later.1 is)
 
--- a call on tasks that creates one names one of so many bodies
-abbrev pub TaskNamesBody : ℕ → TaskCall → Type 0
-TaskNamesBody count (task_line.Create register name body stack priority) = body < count
-TaskNamesBody count other = Unit {0}
-
 -- a line that creates a task names one of so many bodies
 abbrev pub NamesBody : ℕ → ScriptCall → Type 0
-NamesBody count (script_call.Task made) = TaskNamesBody count made
+NamesBody count (script_call.TaskCreate register name body stack priority) = body < count
 NamesBody count other = Unit {0}
 
-task_between : (number count : ℕ) (made : TaskCall) → TaskNamesBetween number count made → TaskNamesBody count made
-task_between number count (task_line.Create register name body stack priority) names = names.1
-task_between number count _ names = tt
-
 between_body : (number count : ℕ) (made : ScriptCall) → NamesBetween number count made → NamesBody count made
-between_body number count (script_call.Task made) names = task_between number count made names
+between_body number count (script_call.TaskCreate register name body stack priority) names = names.1
 between_body number count _ names = tt
 
 -- a line names one of so many bodies
@@ -111,29 +101,12 @@ names_joined count segments entry all =
 pub names_newest : (count : ℕ) (segments : List Segment) (id : ℕ) → AllByRecursion (λ (s : Segment). NamesBodies count (script_in s)) segments → NamesBodies count (newest_script segments id)
 names_newest count segments id all = newest_all (NamesBodies count) segments id (no_names count) all
 
-task_named : (count : ℕ) (made : TaskCall) (registers : List ℕ) (name : Text) (body stack priority : ℕ) → said (call.TaskCreate name body stack priority) ≡ task_call made registers → TaskNamesBody count made → body < count
-task_named count (task_line.Create register other number room level) registers name body stack priority is names = let same : body ≡ number = cc in rw same names
-task_named count _ registers name body stack priority is names = absurd (cc)
-
 -- a creation that a line makes names a body
 named_by : (count : ℕ) (line : ScriptCall) (registers : List ℕ) (name : Text) (body stack priority : ℕ) → said (call.TaskCreate name body stack priority) ≡ call_of line registers → NamesBody count line → body < count
-named_by count (script_call.Task made) registers name body stack priority is names = task_named count made registers name body stack priority is names
-named_by count (script_call.Queue made) registers name body stack priority is names =
-    absurd (false≢true (sym (queue_plain made registers).creation ∙ sym (ap is_creation is)))
-named_by count (script_call.CountSem made) registers name body stack priority is names =
-    absurd (false≢true (sym (count_sem_plain made registers).creation ∙ sym (ap is_creation is)))
-named_by count (script_call.BinSem made) registers name body stack priority is names =
-    absurd (false≢true (sym (bin_sem_plain made registers).creation ∙ sym (ap is_creation is)))
-named_by count (script_call.Mutex made) registers name body stack priority is names =
-    absurd (false≢true (sym (mutex_plain made registers).creation ∙ sym (ap is_creation is)))
-named_by count (script_call.Condvar made) registers name body stack priority is names =
-    absurd (false≢true (sym (condvar_plain made registers).creation ∙ sym (ap is_creation is)))
-named_by count (script_call.Timebase made) registers name body stack priority is names =
-    absurd (false≢true (sym (timebase_plain made registers).creation ∙ sym (ap is_creation is)))
-named_by count (script_call.Timer made) registers name body stack priority is names =
-    absurd (false≢true (sym (timer_plain made registers).creation ∙ sym (ap is_creation is)))
-named_by count (script_call.Hold id) registers name body stack priority is names = absurd (cc)
-named_by count (script_call.Release id) registers name body stack priority is names = absurd (cc)
+named_by count (script_call.TaskCreate register other number room level) registers name body stack priority is names =
+    let same : body ≡ number = cc in rw same names
+named_by count line registers name body stack priority is names =
+    absurd (false≢true (sym (line_made no_prices line registers).creation ∙ sym (ap is_creation is)))
 
 -- the same of the line that comes next
 pub named_next : (count : ℕ) (pending : List Pending) (frames : Frames) (name : Text) (body stack priority : ℕ) → said (call.TaskCreate name body stack priority) ≡ line_call pending frames → OfPending (LineNames count) pending → body < count

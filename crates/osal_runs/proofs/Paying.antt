@@ -14,10 +14,8 @@ use Rattle.osal_call.specs.declared.call.Call.TheVariants as call
 use Rattle.osal_call.specs.declared.call.Entry.{Entry}
 use Rattle.osal_line.specs.declared.line.ScriptCall.{ScriptCall}
 use Rattle.osal_line.specs.declared.line.ScriptCall.TheVariants as script_call
-use Rattle.osal_line.specs.declared.tasks.TaskCall.{TaskCall}
-use Rattle.osal_line.specs.declared.tasks.TaskCall.TheVariants as task_line
-use Rattle.osal_line.specs.Calls.{task_call, call_of}
-use Rattle.osal_price.specs.Price.{Prices, task_cost, line_cost}
+use Rattle.osal_line.specs.Calls.{call_of}
+use Rattle.osal_price.specs.Price.{Prices, line_cost}
 use Rattle.osal_script.specs.declared.phase.Phase.{Phase}
 use Rattle.osal_script.specs.declared.phase.Phase.TheVariants as phase
 use Rattle.osal_script.specs.App.{Application, ScriptBody, NamesLater, HandlersAreBare}
@@ -37,36 +35,17 @@ use Rattle.osal_runs.proofs.LinkedSteps.{has_of_next, creation_of}
 use Rattle.osal_runs.proofs.Following.{still_moment, next_still}
 use Rattle.osal_runs.proofs.Spending.{left_in, plain_left, Spends, spends_in}
 use Rattle.osal_runs.proofs.Ticks.{ticks_next, ticks_made, newest_paid}
-use Rattle.osal_runs.proofs.Families.{queue_plain, count_sem_plain, bin_sem_plain, mutex_plain, condvar_plain, timebase_plain, timer_plain}
+use Rattle.osal_runs.proofs.MadeByLines.{line_made}
 
 turned : (a b c d : ℕ) → a ≡ d → (a + c) + b ≡ (b + c) + d
 turned a b c d same = omega arith
 
-task_creation_pays : (prices : Prices) (made : TaskCall) (registers : List ℕ) (name : Text) (body stack priority : ℕ) → said (call.TaskCreate name body stack priority) ≡ task_call made registers → 2 + task_cost prices made ≡ 2 + (8 + prices.body body)
-task_creation_pays prices (task_line.Create register other number room level) registers name body stack priority is =
-    let same : number ≡ body = cc in ap (λ n. 2 + (8 + prices.body n)) same
-task_creation_pays prices _ registers name body stack priority is = absurd (cc)
-
 -- a line that creates a task costs its body and ten
 creation_pays : (prices : Prices) (line : ScriptCall) (registers : List ℕ) (name : Text) (body stack priority : ℕ) → said (call.TaskCreate name body stack priority) ≡ call_of line registers → line_cost prices line ≡ 2 + (8 + prices.body body)
-creation_pays prices (script_call.Task made) registers name body stack priority is =
-    task_creation_pays prices made registers name body stack priority is
-creation_pays prices (script_call.Queue made) registers name body stack priority is =
-    absurd (false≢true (sym (queue_plain made registers).creation ∙ sym (ap is_creation is)))
-creation_pays prices (script_call.CountSem made) registers name body stack priority is =
-    absurd (false≢true (sym (count_sem_plain made registers).creation ∙ sym (ap is_creation is)))
-creation_pays prices (script_call.BinSem made) registers name body stack priority is =
-    absurd (false≢true (sym (bin_sem_plain made registers).creation ∙ sym (ap is_creation is)))
-creation_pays prices (script_call.Mutex made) registers name body stack priority is =
-    absurd (false≢true (sym (mutex_plain made registers).creation ∙ sym (ap is_creation is)))
-creation_pays prices (script_call.Condvar made) registers name body stack priority is =
-    absurd (false≢true (sym (condvar_plain made registers).creation ∙ sym (ap is_creation is)))
-creation_pays prices (script_call.Timebase made) registers name body stack priority is =
-    absurd (false≢true (sym (timebase_plain made registers).creation ∙ sym (ap is_creation is)))
-creation_pays prices (script_call.Timer made) registers name body stack priority is =
-    absurd (false≢true (sym (timer_plain made registers).creation ∙ sym (ap is_creation is)))
-creation_pays prices (script_call.Hold id) registers name body stack priority is = absurd (cc)
-creation_pays prices (script_call.Release id) registers name body stack priority is = absurd (cc)
+creation_pays prices (script_call.TaskCreate register other number room level) registers name body stack priority is =
+    let same : number ≡ body = cc in ap (λ n. 2 + (8 + prices.body n)) same
+creation_pays prices line registers name body stack priority is =
+    absurd (false≢true (sym (line_made prices line registers).creation ∙ sym (ap is_creation is)))
 
 module _ (prices : Prices) where
   -- the segments one behind the other

@@ -16,44 +16,26 @@ use Rattle.osal_laws.proofs.PartWaits.{seen_in}
 use Rattle.osal_laws.proofs.TasksAlike.{moves_tasks}
 use Rattle.osal_laws.proofs.TasksKept.{active_kept}
 use Rattle.osal_line.specs.declared.line.ScriptCall.{ScriptCall}
-use Rattle.osal_line.specs.declared.line.ScriptCall.TheVariants as script
-use Rattle.osal_line.specs.declared.tasks.TaskCall.{TaskCall}
-use Rattle.osal_line.specs.declared.tasks.TaskCall.TheVariants as task_line
-use Rattle.osal_line.specs.Calls.{task_call, call_of}
-use Rattle.osal_line.specs.Exit.{is_task_exit, is_exit_line}
+use Rattle.osal_line.specs.Calls.{call_of}
+use Rattle.osal_line.specs.Exit.{is_exit_line}
 use Rattle.osal_script.specs.declared.phase.Phase.{Phase}
 use Rattle.osal_script.specs.declared.phase.Phase.TheVariants as phase
 use Rattle.osal_script.specs.App.{ScriptBody}
+use Rattle.osal_script.specs.Cost.{no_prices}
 use Rattle.osal_script.specs.Script.{Pending, Frames, ScriptState, line_call, is_success, after_answer, phase_after_checkpoint, after_in}
 use Rattle.osal_runs.specs.Linked.{IsLinkedAt, waits_in}
 use Rattle.osal_runs.proofs.TaskCalls.{AreUnheld}
-pub use Rattle.osal_runs.proofs.Families.{is_of_line}
-use Rattle.osal_runs.proofs.Families.{queue_plain, count_sem_plain, bin_sem_plain, mutex_plain, condvar_plain, timebase_plain, timer_plain}
+pub use Rattle.osal_runs.proofs.MadeByLines.{is_of_line}
+use Rattle.osal_runs.proofs.MadeByLines.{line_made}
 use Rattle.osal_runs.proofs.LineCalls.{Agrees, IsPlain, Moves, Removes, Opens, Closes, kept_same, kept_by, closes_part, checkpoint_calls, is_exit, IsOfLine, IsLineCall, Goes, Waits, Exits, line_calls}
 
 line_said : (made : Call) → is_of_line (said made) ≡ is_of_line made
 line_said call.Checkpoint = refl
 line_said _ = refl
 
-task_of : (made : TaskCall) (registers : List ℕ) → is_of_line (task_call made registers) ≡ true
-task_of task_line.Exit registers = refl
-task_of _ registers = refl
-
-line_of : (line : ScriptCall) (registers : List ℕ) → is_of_line (call_of line registers) ≡ true
-line_of (script.Task made) registers = task_of made registers
-line_of (script.Queue made) registers = (queue_plain made registers).line
-line_of (script.CountSem made) registers = (count_sem_plain made registers).line
-line_of (script.BinSem made) registers = (bin_sem_plain made registers).line
-line_of (script.Mutex made) registers = (mutex_plain made registers).line
-line_of (script.Condvar made) registers = (condvar_plain made registers).line
-line_of (script.Timebase made) registers = (timebase_plain made registers).line
-line_of (script.Timer made) registers = (timer_plain made registers).line
-line_of (script.Hold id) registers = refl
-line_of (script.Release id) registers = refl
-
 line_next : (pending : List Pending) (frames : Frames) → is_of_line (line_call pending frames) ≡ true
 line_next [] frames = refl
-line_next (next ∷ pending) frames = line_of next.line.call _
+line_next (next ∷ pending) frames = (line_made no_prices next.line.call _).line
 
 -- what is a line's call is made by a line
 pub made_by_line : (made : Call) (pending : List Pending) (frames : Frames) → said made ≡ line_call pending frames → is_of_line made ≡ true
@@ -63,21 +45,8 @@ exit_said : (made : Call) → is_exit (said made) ≡ is_exit made
 exit_said call.TaskExit = refl
 exit_said _ = refl
 
-task_exit_of : (made : TaskCall) (registers : List ℕ) → is_exit (task_call made registers) ≡ is_task_exit made
-task_exit_of task_line.Exit registers = refl
-task_exit_of _ registers = refl
-
 exit_of : (line : ScriptCall) (registers : List ℕ) → is_exit (call_of line registers) ≡ is_exit_line line
-exit_of (script.Task made) registers = task_exit_of made registers
-exit_of (script.Queue made) registers = (queue_plain made registers).exit
-exit_of (script.CountSem made) registers = (count_sem_plain made registers).exit
-exit_of (script.BinSem made) registers = (bin_sem_plain made registers).exit
-exit_of (script.Mutex made) registers = (mutex_plain made registers).exit
-exit_of (script.Condvar made) registers = (condvar_plain made registers).exit
-exit_of (script.Timebase made) registers = (timebase_plain made registers).exit
-exit_of (script.Timer made) registers = (timer_plain made registers).exit
-exit_of (script.Hold id) registers = refl
-exit_of (script.Release id) registers = refl
+exit_of line registers = (line_made no_prices line registers).exit
 
 -- what says a checkpoint is one
 pub unsaid_checkpoint : (made : Call) → said made ≡ call.Checkpoint → made ≡ call.Checkpoint

@@ -10,12 +10,9 @@ use Rattle.osal_machine.specs.Step.{MachineState, step}
 use Rattle.osal_call.specs.declared.call.Call.{Call}
 use Rattle.osal_call.specs.declared.call.Call.TheVariants as call
 use Rattle.osal_line.specs.declared.line.ScriptCall.{ScriptCall}
-use Rattle.osal_line.specs.declared.line.ScriptCall.TheVariants as script_call
-use Rattle.osal_line.specs.declared.tasks.TaskCall.{TaskCall}
-use Rattle.osal_line.specs.declared.tasks.TaskCall.TheVariants as task_line
 use Rattle.osal_line.specs.Bare.{is_tick_line}
-use Rattle.osal_line.specs.Calls.{task_call, call_of}
-use Rattle.osal_price.specs.Price.{Prices, task_cost, line_cost}
+use Rattle.osal_line.specs.Calls.{call_of}
+use Rattle.osal_price.specs.Price.{Prices, line_cost}
 use Rattle.osal_line.specs.Exit.{is_exit_line}
 use Rattle.osal_script.specs.declared.phase.Phase.{Phase}
 use Rattle.osal_script.specs.declared.phase.Phase.TheVariants as phase
@@ -31,7 +28,7 @@ use Rattle.osal_laws.proofs.DueCounts.{due_counts}
 use Rattle.osal_runs.proofs.LineCalls.{wait_cost_of, Removes, IsLineCall, Goes, Waits, Exits, line_calls, checkpoint_calls}
 use Rattle.osal_runs.proofs.Linking.{of_line}
 use Rattle.osal_runs.proofs.ScriptCalls.{end_closes, abandon_closes, made_by_line, unsaid_checkpoint, unsaid_end, unsaid_abandon}
-use Rattle.osal_runs.proofs.Families.{is_tick_call, queue_plain, count_sem_plain, bin_sem_plain, mutex_plain, condvar_plain, timebase_plain, timer_plain}
+use Rattle.osal_runs.proofs.MadeByLines.{is_tick_call, line_made}
 
 -- the cost of a call's wait is that of what it says
 wait_said : (made : Call) → wait_cost_of (said made) ≡ wait_cost_of made
@@ -39,23 +36,9 @@ wait_said (call.TaskDelay ms) = refl
 wait_said (call.BinSemTake id wait) = refl
 wait_said _ = refl
 
-task_pays : (prices : Prices) (made : TaskCall) (registers : List ℕ) → wait_cost_of (task_call made registers) ≤ task_cost prices made
-task_pays prices (task_line.Create register name body stack priority) registers = omega arith
-task_pays prices (task_line.Delay ms) registers = omega arith
-task_pays prices _ registers = omega arith
-
 -- a line costs its checkpoint, its call and its wait
 line_pays : (prices : Prices) (line : ScriptCall) (registers : List ℕ) → wait_cost_of (call_of line registers) + 2 ≤ line_cost prices line
-line_pays prices (script_call.Task made) registers = let pays = task_pays prices made registers in omega arith
-line_pays prices (script_call.Queue made) registers = let pays = (queue_plain made registers).pays in omega arith
-line_pays prices (script_call.CountSem made) registers = let pays = (count_sem_plain made registers).pays in omega arith
-line_pays prices (script_call.BinSem made) registers = let pays = (bin_sem_plain made registers).pays in omega arith
-line_pays prices (script_call.Mutex made) registers = let pays = (mutex_plain made registers).pays in omega arith
-line_pays prices (script_call.Condvar made) registers = let pays = (condvar_plain made registers).pays in omega arith
-line_pays prices (script_call.Timebase made) registers = let pays = (timebase_plain made registers).pays in omega arith
-line_pays prices (script_call.Timer made) registers = let pays = (timer_plain made registers).pays in omega arith
-line_pays prices (script_call.Hold id) registers = omega arith
-line_pays prices (script_call.Release id) registers = omega arith
+line_pays prices line registers = let pays = (line_made prices line registers).pays in omega arith
 
 module _ (prices : Prices) where
   -- what a script may still make

@@ -15,23 +15,20 @@ use Rattle.osal_call.specs.declared.call.Call.TheVariants as call
 use Rattle.osal_call.specs.declared.call.Entry.{Entry}
 use Rattle.osal_laws.proofs.Attached.{tick_few}
 use Rattle.osal_line.specs.declared.line.ScriptCall.{ScriptCall}
-use Rattle.osal_line.specs.declared.line.ScriptCall.TheVariants as script
-use Rattle.osal_line.specs.declared.tasks.TaskCall.{TaskCall}
-use Rattle.osal_line.specs.declared.tasks.TaskCall.TheVariants as task_line
 use Rattle.osal_line.specs.Bare.{is_tick_line}
-use Rattle.osal_line.specs.Calls.{task_call, call_of}
+use Rattle.osal_line.specs.Calls.{call_of}
 use Rattle.osal_price.specs.Price.{Prices}
 use Rattle.osal_script.specs.declared.phase.Phase.{Phase}
 use Rattle.osal_script.specs.declared.phase.Phase.TheVariants as phase
 use Rattle.osal_script.specs.App.{Application, HandlersAreBare}
-use Rattle.osal_script.specs.Cost.{tick_cost}
+use Rattle.osal_script.specs.Cost.{no_prices, tick_cost}
 use Rattle.osal_script.specs.Script.{start_of, Pending, Frames, ScriptState, line_call, phase_after_checkpoint, is_checkpoint, after_answer, after_in, after_entry, MayCome, Follow, reached}
 use Rattle.osal_runs.specs.Segments.{Segment, script_in}
 use Rattle.osal_runs.specs.Runs.{FollowsScript}
 use Rattle.osal_runs.specs.Linked.{newest_script, IsLinkedAt, RunsBody}
 use Rattle.osal_runs.specs.Potential.{prices_of}
 use Rattle.osal_runs.proofs.Segments.{bodies_reached, newest_all}
-use Rattle.osal_runs.proofs.Families.{is_tick_call, queue_plain, count_sem_plain, bin_sem_plain, mutex_plain, condvar_plain, timebase_plain, timer_plain}
+use Rattle.osal_runs.proofs.MadeByLines.{is_tick_call, line_made}
 use Rattle.osal_runs.proofs.ScriptCalls.{answered_in}
 use Rattle.osal_runs.proofs.HandlerCosts.{IsFew, AreBare}
 
@@ -46,22 +43,9 @@ pub tick_said : (made : Call) → is_tick_call (said made) ≡ is_tick_call made
 tick_said (call.TimebaseTick id usecs) = refl
 tick_said _ = refl
 
-task_tick : (made : TaskCall) (registers : List ℕ) → is_tick_call (task_call made registers) ≡ false
-task_tick task_line.Exit registers = refl
-task_tick _ registers = refl
-
 -- and where its line does
 pub tick_of : (line : ScriptCall) (registers : List ℕ) → is_tick_call (call_of line registers) ≡ is_tick_line line
-tick_of (script.Task made) registers = task_tick made registers
-tick_of (script.Queue made) registers = (queue_plain made registers).tick
-tick_of (script.CountSem made) registers = (count_sem_plain made registers).tick
-tick_of (script.BinSem made) registers = (bin_sem_plain made registers).tick
-tick_of (script.Mutex made) registers = (mutex_plain made registers).tick
-tick_of (script.Condvar made) registers = (condvar_plain made registers).tick
-tick_of (script.Timebase made) registers = (timebase_plain made registers).tick
-tick_of (script.Timer made) registers = (timer_plain made registers).tick
-tick_of (script.Hold id) registers = refl
-tick_of (script.Release id) registers = refl
+tick_of line registers = (line_made no_prices line registers).tick
 
 -- whether the line that comes next is a tick
 abbrev pub ticks_next : List Pending → Bool

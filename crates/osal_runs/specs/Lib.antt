@@ -7,9 +7,11 @@ pub use Rattle.osal_machine.specs.OpenWaits
 pub use Rattle.osal_call.specs.Journal
 pub use Rattle.osal_machine.specs.History
 pub mod Segments
+pub mod Spans
 pub mod Waiting
 pub mod Runs
 pub mod Linked
 pub mod UnderWay
 pub mod Potential
 pub mod CostLaw
+pub mod Ticks

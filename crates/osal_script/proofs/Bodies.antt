@@ -2,15 +2,12 @@
 use Rattle.std.proofs.Common.{◌≡◌, ◌<◌, ◌≤◌, ◌+◌, ◌-◌, ◌∙◌, ℕ, zero, suc, List, [], ◌∷◌, Some, length, take, drop, get_or, set, map, slice_index, slice_get, refl, sym, ap, subst, zero-add, arith}
 use Rattle.std.proofs.lemmas.List.{get_or-take, get_or-drop, drop-set}
 use Rattle.std.specs.List.{AllByRecursion}
+use Rattle.osal_call.specs.declared.word.NumberWord.TheVariants as number_word
 use Rattle.osal_line.specs.declared.line.ScriptCall.{ScriptCall}
 use Rattle.osal_line.specs.declared.line.ScriptCall.TheVariants as script
-use Rattle.osal_line.specs.declared.tasks.TaskCall.{TaskCall}
-use Rattle.osal_line.specs.declared.tasks.TaskCall.TheVariants as task
-use Rattle.osal_line.specs.declared.timebases.TimebaseCall.{TimebaseCall}
-use Rattle.osal_line.specs.declared.timebases.TimebaseCall.TheVariants as timebase
-use Rattle.osal_line.specs.Between.{TaskNamesBetween, NamesBetween}
+use Rattle.osal_line.specs.Between.{NamesBetween}
 use Rattle.osal_price.specs.declared.price.Prices as kept
-use Rattle.osal_price.specs.Price.{Prices, task_cost, timebase_cost, line_cost}
+use Rattle.osal_price.specs.Price.{Prices, line_cost}
 use Rattle.osal_price.specs.Saturated.{saturated, prices_of}
 use Rattle.osal_script.specs.declared.item.Item.{Item}
 use Rattle.osal_script.specs.declared.item.Item.TheVariants as item
@@ -29,21 +26,14 @@ pub record Agree (number count : ℕ) (prices others : Prices) : Type 0 where
   pub body : (other : ℕ) → number < other → other < count → saturated (prices.body other) ≡ saturated (others.body other)
   pub tick : saturated prices.tick ≡ saturated others.tick
 
-same_task : (number count : ℕ) (prices others : Prices) (made : TaskCall) → Agree number count prices others → TaskNamesBetween number count made → saturated (2 + task_cost prices made) ≡ saturated (2 + task_cost others made)
-same_task number count prices others (task.Create register name body stack priority) agree names =
+same_line : (number count : ℕ) (prices others : Prices) (made : ScriptCall) → Agree number count prices others → NamesBetween number count made → saturated (line_cost prices made) ≡ saturated (line_cost others made)
+same_line number count prices others (script.TaskCreate register name body stack priority) agree names =
     let same = agree.body body names.0 names.1 in
     omega arith
-same_task number count prices others other agree names = refl
-
-same_timebase : (number count : ℕ) (prices others : Prices) (made : TimebaseCall) → Agree number count prices others → saturated (2 + timebase_cost prices made) ≡ saturated (2 + timebase_cost others made)
-same_timebase number count prices others (timebase.Tick id usecs) agree =
+same_line number count prices others (script.Number number_word.TimebaseTick id amount) agree names =
     let same = agree.tick in
     omega arith
-same_timebase number count prices others other agree = refl
-
-same_line : (number count : ℕ) (prices others : Prices) (made : ScriptCall) → Agree number count prices others → NamesBetween number count made → saturated (line_cost prices made) ≡ saturated (line_cost others made)
-same_line number count prices others (script.Task made) agree names = same_task number count prices others made agree names
-same_line number count prices others (script.Timebase made) agree names = same_timebase number count prices others made agree
+same_line number count prices others (script.Number number_word.TaskSetPriority id amount) agree names = refl
 same_line number count prices others other agree names = refl
 
 -- then the levels cost the same

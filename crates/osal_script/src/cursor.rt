@@ -12,7 +12,7 @@ use crate::walk::Walk;
 use crate::{App, Body, Phase};
 use osal_base::{Answer, OutOfMemory, Reply};
 use osal_call::{Call, part_of};
-use osal_line::{Line, ScriptCall, TaskCall, call_made, part_made, set_register};
+use osal_line::{Line, ScriptCall, call_made, part_made, set_register};
 use std::alloc::Global;
 use std::marker::Model;
 
@@ -223,7 +223,7 @@ fn phase_after_line(call: &ScriptCall, answer: Answer) -> Phase
     ensures { result ≡ script.phase_after_line call.now answer }
 {
     match (call, answer) {
-        (ScriptCall::Task(TaskCall::Exit), Answer::Code(0)) => Phase::Ended,
+        (ScriptCall::TaskExit, Answer::Code(0)) => Phase::Ended,
         _ => Phase::Before,
     }
 }

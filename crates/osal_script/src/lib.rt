@@ -13,8 +13,5 @@ mod walk;
 pub use body::{App, Body};
 pub use cursor::{Cursor, Step};
 pub use item::Item;
-pub use osal_line::{
-    BinSemCall, BodyKind, CondvarCall, CountSemCall, Expect, Line, Literal, MutexCall, QueueCall,
-    REGISTER_LIMIT, Register, ScriptCall, TaskCall, TimebaseCall, TimerCall, Value,
-};
+pub use osal_line::{BodyKind, Expect, Line, Literal, REGISTER_LIMIT, Register, ScriptCall, Value};
 pub use phase::Phase;

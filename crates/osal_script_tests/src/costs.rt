@@ -101,6 +101,61 @@ fn each_tick_costs_the_dearest_handler(rt: HostRuntime) -> Result<(), Fail> {
     Ok(())
 }
 
+/// Whole applications, and what they cost: many turns, the most that may be accepted, and the next that may not.
+const WHOLE: [(&str, u64); 3] = [
+    (
+        "osal-app 1\ntask main\nrepeat 65600\nbin_sem_create $s \"s\" 0\nbin_sem_delete $s\nend\nbin_sem_create $s \"s\" 0\nend\n",
+        262_405,
+    ),
+    (
+        "osal-app 1\ntask main\nrepeat 99999\ncount_sem_take $c pend\nend\nend\n",
+        300_000,
+    ),
+    (
+        "osal-app 1\ntask main\nrepeat 100000\ncount_sem_take $c pend\nend\nend\n",
+        300_003,
+    ),
+];
+
+/// What the application of a text costs.
+fn cost_of_text(rt: &impl Abort, alloc: Global, text: &[u8]) -> u64 {
+    assert!(rt; text.len() < 1000000);
+    match parse(alloc, text) {
+        Ok(app) => app.cost(),
+        Err(_) => panic!(rt; "refused"),
+    }
+}
+
+#[test]
+fn whole_applications_cost_what_their_lines_do(rt: HostRuntime) {
+    for (text, cost) in WHOLE {
+        assert!(rt;
+            cost_of_text(&rt, rt.alloc(), text.as_bytes()) == cost,
+            "{cost}"
+        );
+    }
+}
+
+#[test]
+fn tasks_in_a_repeat_cost_their_bodies_each_time(rt: HostRuntime) -> Result<(), Fail> {
+    let alloc = rt.alloc();
+    let mut text = Vec::from_slice(
+        alloc,
+        b"osal-app 1\ntask main\nbin_sem_create $s \"s\" 0\n".as_slice(),
+    )?;
+    for _ in 0..62 {
+        text.extend_from_slice(b"task_create $t \"a\" w 0 1\n".as_slice())?;
+    }
+    text.extend_from_slice(
+        b"repeat 1023\ntask_create $t \"x\" e 0 1\ntask_delay 1\nend\ntask_create $t \"x\" e 0 1\n".as_slice(),
+    )?;
+    text.extend_from_slice(
+        b"hold $s\nend\ntask w\nbin_sem_find $s \"s\"\nbin_sem_take $s pend\nend\ntask e\nend\n".as_slice(),
+    )?;
+    assert!(rt; cost_of_text(&rt, alloc, text.as_slice()) == 17_441);
+    Ok(())
+}
+
 /// Whether the line expects this code, or nothing where it is 0.
 fn expects(app: &App, line: u32, code: i32) -> bool {
     match app.expectation(line) {

@@ -1,10 +1,8 @@
 //! What application texts are read as, and why others are refused.
 use osal_base::Timeout;
+use osal_call::{ValueWord, WaitWord};
 use osal_reading::{ParseFault, parse};
-use osal_script::{
-    App, BinSemCall, BodyKind, CondvarCall, CountSemCall, Expect, Item, Line, MutexCall, QueueCall,
-    ScriptCall, TaskCall, TimebaseCall, TimerCall, Value,
-};
+use osal_script::{App, BodyKind, Expect, Item, Line, ScriptCall, Value};
 use std::alloc::Global;
 use std::process::Abort;
 use std::test::Fail;
@@ -47,13 +45,12 @@ fn line_at(items: &[Item], place: usize) -> Option<&Line> {
 /// Whether a line is `bin_sem_create` with this register, name and value.
 fn creates(line: &Line, number: usize, wanted: &[u8], full: u32) -> bool {
     match &line.call {
-        ScriptCall::BinSem(
-            BinSemCall::Create {
-                register,
-                name,
-                value,
-            },
-        ) => register.index() == number && name.as_slice() == wanted && *value == full,
+        ScriptCall::Value {
+            word: ValueWord::BinSemCreate,
+            register,
+            name,
+            value,
+        } => register.index() == number && name.as_slice() == wanted && *value == full,
         _ => false,
     }
 }
@@ -61,9 +58,11 @@ fn creates(line: &Line, number: usize, wanted: &[u8], full: u32) -> bool {
 /// Whether a line is `bin_sem_take` with this register and wait.
 fn takes(line: &Line, number: usize, wanted: Timeout) -> bool {
     match &line.call {
-        ScriptCall::BinSem(BinSemCall::Take { id, wait }) => {
-            id.index() == number && *wait == wanted
-        }
+        ScriptCall::Wait {
+            word: WaitWord::BinSemTake,
+            id,
+            wait,
+        } => id.index() == number && *wait == wanted,
         _ => false,
     }
 }
@@ -193,14 +192,12 @@ fn starts_at(app: &App, number: u32, place: usize, wanted: (u32, u32, u32)) -> b
 /// Whether a call creates a task with this stack, priority and body.
 fn is_creation(call: &ScriptCall, stack: u32, priority: u32, body: u32) -> bool {
     match call {
-        ScriptCall::Task(
-            TaskCall::Create {
-                body: runs,
-                stack: size,
-                priority: rank,
-                ..
-            },
-        ) => *runs == body && *size == stack && *rank == priority,
+        ScriptCall::TaskCreate {
+            body: runs,
+            stack: size,
+            priority: rank,
+            ..
+        } => *runs == body && *size == stack && *rank == priority,
         _ => false,
     }
 }
@@ -232,7 +229,7 @@ fn a_body_is_named_by_its_number(rt: HostRuntime) {
 /// Whether a call adds a timer that runs this handler.
 fn runs_handler(call: &ScriptCall, number: u32) -> bool {
     match call {
-        ScriptCall::Timer(TimerCall::Add { handler, .. }) => *handler == number,
+        ScriptCall::TimerAdd { handler, .. } => *handler == number,
         _ => false,
     }
 }
@@ -268,132 +265,41 @@ fn tasks_and_handlers_are_numbered_together(rt: HostRuntime) {
     assert!(rt; adds_at(&app, 1, 0, 3));
 }
 
-fn task_letter(call: &TaskCall) -> u8 {
-    match call {
-        TaskCall::Create { .. } => b'C',
-        TaskCall::Exit => b'X',
-        TaskCall::Delete { .. } => b'D',
-        TaskCall::SetPriority { .. } => b'P',
-        TaskCall::Find { .. } => b'F',
-        TaskCall::Info { .. } => b'I',
-        TaskCall::Delay { .. } => b'W',
-    }
-}
-
-fn queue_letter(call: &QueueCall) -> u8 {
-    match call {
-        QueueCall::Create { .. } => b'C',
-        QueueCall::Delete { .. } => b'D',
-        QueueCall::Put { .. } => b'P',
-        QueueCall::Get { .. } => b'G',
-        QueueCall::Find { .. } => b'F',
-        QueueCall::Info { .. } => b'I',
-    }
-}
-
-fn count_sem_letter(call: &CountSemCall) -> u8 {
-    match call {
-        CountSemCall::Create { .. } => b'C',
-        CountSemCall::Give { .. } => b'G',
-        CountSemCall::Take { .. } => b'T',
-        CountSemCall::Delete { .. } => b'D',
-        CountSemCall::Find { .. } => b'F',
-        CountSemCall::Info { .. } => b'I',
-    }
-}
-
-fn bin_sem_letter(call: &BinSemCall) -> u8 {
-    match call {
-        BinSemCall::Create { .. } => b'C',
-        BinSemCall::Give { .. } => b'G',
-        BinSemCall::Flush { .. } => b'L',
-        BinSemCall::Take { .. } => b'T',
-        BinSemCall::Delete { .. } => b'D',
-        BinSemCall::Find { .. } => b'F',
-        BinSemCall::Info { .. } => b'I',
-    }
-}
-
-fn mutex_letter(call: &MutexCall) -> u8 {
-    match call {
-        MutexCall::Create { .. } => b'C',
-        MutexCall::Take { .. } => b'T',
-        MutexCall::Give { .. } => b'G',
-        MutexCall::Delete { .. } => b'D',
-        MutexCall::Find { .. } => b'F',
-        MutexCall::Info { .. } => b'I',
-    }
-}
-
-fn condvar_letter(call: &CondvarCall) -> u8 {
-    match call {
-        CondvarCall::Create { .. } => b'C',
-        CondvarCall::Lock { .. } => b'L',
-        CondvarCall::Unlock { .. } => b'U',
-        CondvarCall::Signal { .. } => b'S',
-        CondvarCall::Broadcast { .. } => b'B',
-        CondvarCall::Wait { .. } => b'W',
-        CondvarCall::Delete { .. } => b'D',
-        CondvarCall::Find { .. } => b'F',
-    }
-}
-
-fn timebase_letter(call: &TimebaseCall) -> u8 {
-    match call {
-        TimebaseCall::Create { .. } => b'C',
-        TimebaseCall::Tick { .. } => b'T',
-        TimebaseCall::FreeRun { .. } => b'R',
-        TimebaseCall::Delete { .. } => b'D',
-        TimebaseCall::Find { .. } => b'F',
-    }
-}
-
-fn timer_letter(call: &TimerCall) -> u8 {
-    match call {
-        TimerCall::Add { .. } => b'A',
-        TimerCall::Set { .. } => b'S',
-        TimerCall::Delete { .. } => b'D',
-        TimerCall::Find { .. } => b'F',
-        TimerCall::Info { .. } => b'I',
-    }
-}
-
-/// A letter for the kind of object, and one for the call.
-fn letters_of(call: &ScriptCall) -> (u8, u8) {
-    match call {
-        ScriptCall::Task(call) => (b't', task_letter(call)),
-        ScriptCall::Queue(call) => (b'q', queue_letter(call)),
-        ScriptCall::CountSem(call) => (b'c', count_sem_letter(call)),
-        ScriptCall::BinSem(call) => (b'b', bin_sem_letter(call)),
-        ScriptCall::Mutex(call) => (b'm', mutex_letter(call)),
-        ScriptCall::Condvar(call) => (b'v', condvar_letter(call)),
-        ScriptCall::Timebase(call) => (b'k', timebase_letter(call)),
-        ScriptCall::Timer(call) => (b'r', timer_letter(call)),
-        ScriptCall::Hold { .. } => (b'o', b'H'),
-        ScriptCall::Release { .. } => (b'o', b'R'),
-    }
-}
-
-fn push_letters(letters: &mut Vec<u8>, item: &Item) -> Result<(), Fail> {
+/// The name of a call line, or a bracket for the beginning or the end of a repeat.
+fn item_word(item: &Item) -> &[u8] {
     match item {
-        Item::Call(line) => {
-            let (kind, call) = letters_of(&line.call);
-            letters.push(kind)?;
-            letters.push(call)?;
-        }
-        Item::Repeat { .. } => letters.push(b'(')?,
-        Item::End => letters.push(b')')?,
+        Item::Call(line) => line.call.name(),
+        Item::Repeat { .. } => b"(",
+        Item::End => b")",
     }
-    Ok(())
 }
 
-/// Whether the items of the main body have these letters.
-fn says(alloc: Global, app: &App, wanted: &str) -> Result<bool, Fail> {
-    let mut letters = Vec::new(alloc);
+/// Whether the items of the main body have these words, each with a space behind it.
+fn says(alloc: Global, app: &App, wanted: &[u8]) -> Result<bool, Fail> {
+    let mut words = Vec::new(alloc);
     for item in app.main().items() {
-        push_letters(&mut letters, item)?;
+        words.extend_from_slice(item_word(item))?;
+        words.push(b' ')?;
     }
-    Ok(letters.as_slice() == wanted.as_bytes())
+    Ok(words.as_slice() == wanted)
+}
+
+/// The first word of each line, with a space behind it.
+fn first_words(alloc: Global, lines: &str) -> Result<Vec<u8>, Fail> {
+    let mut words = Vec::new(alloc);
+    let mut is_first = true;
+    for byte in lines.as_bytes() {
+        if *byte == b'\n' {
+            words.push(b' ')?;
+            is_first = true;
+        } else if *byte == b' ' {
+            is_first = false;
+        } else if is_first {
+            words.push(*byte)?;
+        }
+    }
+    words.push(b' ')?;
+    Ok(words)
 }
 
 /// The application with these lines in its body.
@@ -404,72 +310,49 @@ fn with_lines(alloc: Global, lines: &str) -> Result<Vec<u8>, Fail> {
     Ok(text)
 }
 
-/// Whether these lines are read as those items.
-fn reads_as(rt: &impl Abort, alloc: Global, lines: &str, wanted: &str) -> Result<bool, Fail> {
+/// Whether these lines are read as items of those words.
+fn reads_as(rt: &impl Abort, alloc: Global, lines: &str, wanted: &[u8]) -> Result<bool, Fail> {
     let text = with_lines(alloc, lines)?;
     let app = app_of(rt, alloc, text.as_slice());
     says(alloc, &app, wanted)
 }
 
-/// The lines of a body, and the letters of its items.
-const LINES: [(&str, &str); 8] = [
-    (
-        "task_exit\ntask_delete $t\ntask_set_priority $t 7\ntask_find $t \"a\"\ntask_info $t\ntask_delay 20",
-        "tXtDtPtFtItW",
-    ),
-    (
-        "queue_create $q \"q\" 50 0x400\nqueue_delete $q\nqueue_put $q \"a\"\nqueue_put $q fill 8192 255\nqueue_get $q 0 check\nqueue_find $q \"q\"\nqueue_info $q",
-        "qCqDqPqPqGqFqI",
-    ),
-    (
-        "count_sem_create $c \"c\" 32767\ncount_sem_give $c\ncount_sem_take $c 0x7fffffff\ncount_sem_delete $c\ncount_sem_find $c \"c\"\ncount_sem_info $c",
-        "cCcGcTcDcFcI",
-    ),
-    (
-        "bin_sem_create $s \"s\" 0\nbin_sem_give $s\nbin_sem_flush $s\nbin_sem_take $s pend\nbin_sem_delete $s\nbin_sem_find $s \"s\"\nbin_sem_info $s\nhold $s\nrelease $s",
-        "bCbGbLbTbDbFbIoHoR",
-    ),
-    (
-        "mut_sem_create $m \"m\"\nmut_sem_take $m\nmut_sem_give $m\nmut_sem_delete $m\nmut_sem_find $m \"m\"\nmut_sem_info $m",
-        "mCmTmGmDmFmI",
-    ),
-    (
-        "condvar_create $v \"v\"\ncondvar_lock $v\ncondvar_unlock $v\ncondvar_signal $v\ncondvar_broadcast $v\ncondvar_wait $v 1\ncondvar_delete $v\ncondvar_find $v \"v\"",
-        "vCvLvUvSvBvWvDvF",
-    ),
-    (
-        "timebase_create $b \"b\"\ntimebase_tick $b 4294967295\ntimebase_free_run $b\ntimebase_delete $b\ntimebase_find $b \"b\"",
-        "kCkTkRkDkF",
-    ),
-    (
-        "timer_set $m 0 0x10\ntimer_delete $m\ntimer_find $m \"m\"\ntimer_info $m",
-        "rSrDrFrI",
-    ),
+/// The lines of a body, each of them a call.
+const LINES: [&str; 8] = [
+    "task_exit\ntask_delete $t\ntask_set_priority $t 7\ntask_find $t \"a\"\ntask_info $t\ntask_delay 20",
+    "queue_create $q \"q\" 50 0x400\nqueue_delete $q\nqueue_put $q \"a\"\nqueue_put $q fill 8192 255\nqueue_get $q 0 check\nqueue_find $q \"q\"\nqueue_info $q",
+    "count_sem_create $c \"c\" 32767\ncount_sem_give $c\ncount_sem_take $c 0x7fffffff\ncount_sem_delete $c\ncount_sem_find $c \"c\"\ncount_sem_info $c",
+    "bin_sem_create $s \"s\" 0\nbin_sem_give $s\nbin_sem_take $s pend\nbin_sem_delete $s\nbin_sem_find $s \"s\"\nbin_sem_info $s\nhold $s\nrelease $s",
+    "mut_sem_create $m \"m\"\nmut_sem_take $m\nmut_sem_give $m\nmut_sem_delete $m\nmut_sem_find $m \"m\"\nmut_sem_info $m",
+    "condvar_create $v \"v\"\ncondvar_lock $v\ncondvar_unlock $v\ncondvar_signal $v\ncondvar_broadcast $v\ncondvar_wait $v 1\ncondvar_delete $v\ncondvar_find $v \"v\"",
+    "timebase_create $b \"b\"\ntimebase_tick $b 4294967295\ntimebase_free_run $b\ntimebase_delete $b\ntimebase_find $b \"b\"",
+    "timer_set $m 0 0x10\ntimer_delete $m\ntimer_find $m \"m\"\ntimer_info $m",
 ];
 
 #[test]
 fn every_line_is_read(rt: HostRuntime) -> Result<(), Fail> {
-    for (lines, wanted) in LINES {
-        let same = reads_as(&rt, rt.alloc(), lines, wanted)?;
+    for lines in LINES {
+        let wanted = first_words(rt.alloc(), lines)?;
+        let same = reads_as(&rt, rt.alloc(), lines, wanted.as_slice())?;
         assert!(rt; same, "{lines}");
     }
     Ok(())
 }
 
-/// Bodies with repeats, and the letters of their items: a repeat without a call is left out.
-const REPEATS: [(&str, &str); 4] = [
+/// Bodies with repeats, and the words of their items: a repeat without a call is left out.
+const REPEATS: [(&str, &[u8]); 4] = [
     (
         "hold $a\nrepeat 3\nrelease $a\nrepeat 0x10\nhold $a\nend\nend\nrelease $a",
-        "oH(oR(oH))oR",
+        b"hold ( release ( hold ) ) release ",
     ),
     (
         "repeat 1\nrepeat 1\nrepeat 1\nrepeat 100000\nhold $a\nend\nend\nend\nend",
-        "((((oH))))",
+        b"( ( ( ( hold ) ) ) ) ",
     ),
-    ("repeat 5\nend\nhold $a\nrepeat 5\n# nothing\nend", "oH"),
+    ("repeat 5\nend\nhold $a\nrepeat 5\n# nothing\nend", b"hold "),
     (
         "repeat 2\nrepeat 3\nrepeat 4\nend\nend\nhold $a\nrepeat 5\nend\nend",
-        "(oH)",
+        b"( hold ) ",
     ),
 ];
 
@@ -499,7 +382,7 @@ const PUTS: [(&str, &[u8]); 6] = [
 fn payload_of(app: &App) -> Option<&[u8]> {
     let line = line_at(app.main().items(), 0)?;
     match &line.call {
-        ScriptCall::Queue(QueueCall::Put { payload, .. }) => Some(payload.as_slice()),
+        ScriptCall::QueuePut { payload, .. } => Some(payload.as_slice()),
         _ => None,
     }
 }

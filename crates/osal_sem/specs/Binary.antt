@@ -8,6 +8,8 @@ use Rattle.osal_base.specs.declared.time.Timeout.{Timeout}
 use Rattle.osal_base.specs.Identifier.{type_number}
 use Rattle.osal_base.specs.Reply.{Replied, refusal, success, gives_bytes, waits, is_waits}
 use Rattle.osal_base.specs.Time.{is_check}
+use Rattle.osal_call.specs.declared.call.Call.{Call}
+use Rattle.osal_call.specs.declared.call.Call.TheVariants as call
 use Rattle.osal_object.specs.declared.waits.WaitRecord.{WaitRecord}
 use Rattle.osal_object.specs.Standing.{standing_on}
 use Rattle.osal_idtable.specs.Table.{Active, active_at}
@@ -100,3 +102,22 @@ wait_abandon_step sems task = in_bin_sems (abandon_step sems.objects task)
 -- whether the end of the task's take would not wait on
 abbrev pub ready : BinSemState → ℕ → Moment → Bool
 ready sems task now = not (is_waits (wait_end_step sems task now).0.answer)
+
+-- the calls of the binary semaphore part that end no wait
+abbrev pub bin_sem_call : Call → Outcome BinSem ℕ
+bin_sem_call (call.BinSemCreate name value) = bin_sem_create name.bytes value
+bin_sem_call (call.BinSemGive id) = bin_sem_give id
+bin_sem_call (call.BinSemFlush id) = bin_sem_flush id
+bin_sem_call (call.BinSemTake id wait) = bin_sem_take id wait
+bin_sem_call (call.BinSemDelete id) = Remove id
+bin_sem_call (call.BinSemFind name) = Find name.bytes
+bin_sem_call (call.BinSemInfo id) = bin_sem_info id
+bin_sem_call (call.Hold id) = Hold id
+bin_sem_call (call.Release id) = Release id
+bin_sem_call other = Refuse status.ErrIncorrectObjState
+
+-- the calls of the binary semaphore part
+abbrev pub bin_sem_step : BinSemState → ℕ → Moment → Call → Replied × BinSemState
+bin_sem_step sems task now (call.WaitEnd part) = wait_end_step sems task now
+bin_sem_step sems task now (call.WaitAbandon part) = wait_abandon_step sems task
+bin_sem_step sems task now made = done sems task now (bin_sem_call made)

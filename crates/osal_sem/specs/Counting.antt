@@ -8,6 +8,8 @@ use Rattle.osal_base.specs.declared.time.Timeout.{Timeout}
 use Rattle.osal_base.specs.Identifier.{type_number}
 use Rattle.osal_base.specs.Reply.{Replied, refusal, success, is_waits}
 use Rattle.osal_base.specs.Time.{is_check}
+use Rattle.osal_call.specs.declared.call.Call.{Call}
+use Rattle.osal_call.specs.declared.call.Call.TheVariants as call
 use Rattle.osal_object.specs.declared.waits.WaitRecord.{WaitRecord}
 use Rattle.osal_object.specs.Standing.{standing_on}
 use Rattle.osal_idtable.specs.Table.{Active, active_at}
@@ -15,7 +17,7 @@ use Rattle.osal_idtable.specs.Faults.{name_bytes}
 use Rattle.osal_object.specs.Waits.{wait_of, is_due}
 use Rattle.osal_object.specs.Objects.{ObjectsState, no_objects}
 use Rattle.osal_object.specs.Waiting.{abandon_step}
-use Rattle.osal_object.specs.Outcomes.{Put, Outcome, Refuse, Named, On, Make, Wait, Ending, NoWait, WaitsOn, Ends, change, tell, carried_out, ended_as}
+use Rattle.osal_object.specs.Outcomes.{Put, Outcome, Refuse, Named, On, Make, Wait, Ending, NoWait, WaitsOn, Ends, change, tell, carried_out, ended_as, Find, Remove, Hold, Release}
 use Rattle.osal_sem.specs.declared.counting.CountSem.{CountSem}
 
 -- the counting semaphore part: the semaphores, and the takes that wait, each for the semaphore of that identifier
@@ -103,3 +105,21 @@ wait_abandon_step sems task = in_count_sems (abandon_step sems.objects task)
 -- whether the end of the task's take would not wait on
 abbrev pub ready : CountSemState → ℕ → Moment → Bool
 ready sems task now = not (is_waits (wait_end_step sems task now).0.answer)
+
+-- the calls of the counting semaphore part that end no wait
+abbrev pub count_sem_call : Call → Outcome CountSem ℕ
+count_sem_call (call.CountSemCreate name value) = count_sem_create name.bytes value
+count_sem_call (call.CountSemGive id) = count_sem_give id
+count_sem_call (call.CountSemTake id wait) = count_sem_take id wait
+count_sem_call (call.CountSemDelete id) = Remove id
+count_sem_call (call.CountSemFind name) = Find name.bytes
+count_sem_call (call.CountSemInfo id) = count_sem_info id
+count_sem_call (call.Hold id) = Hold id
+count_sem_call (call.Release id) = Release id
+count_sem_call other = Refuse status.ErrIncorrectObjState
+
+-- the calls of the counting semaphore part
+abbrev pub count_sem_step : CountSemState → ℕ → Moment → Call → Replied × CountSemState
+count_sem_step sems task now (call.WaitEnd part) = wait_end_step sems task now
+count_sem_step sems task now (call.WaitAbandon part) = wait_abandon_step sems task
+count_sem_step sems task now made = done sems task now (count_sem_call made)

@@ -1,3 +1,4 @@
+pub use Rattle.osal_call.specs.Call
 pub use Rattle.osal_idtable.specs.Table
 pub use Rattle.osal_idtable.specs.Steps
 pub use Rattle.osal_object.specs.Objects

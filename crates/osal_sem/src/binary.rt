@@ -1,16 +1,18 @@
 //! The binary semaphore part.
-ghost use Rattle.std.specs.Prelude.{◌≡◌, IsOk, IfOk, is_some};
+ghost use Rattle.std.specs.Prelude.{◌≡◌, IsOk, IfOk, is_some, ◌==◌, IsTrue};
 ghost use Rattle.osal_base.specs.Limits.{Fits};
 ghost use Rattle.osal_base.specs.Reply.{replied};
 ghost use Rattle.osal_idtable.specs.Table.{active_at};
 ghost use Rattle.osal_object.specs.Outcomes.{Find, Remove, Hold, Release};
-ghost use Rattle.osal_sem.specs.Binary.{no_bin_sems, done, bin_sem_create, bin_sem_take, bin_sem_give, bin_sem_flush, bin_sem_info};
+ghost use Rattle.osal_sem.specs.Binary.{no_bin_sems, done, bin_sem_create, bin_sem_take, bin_sem_give, bin_sem_flush, bin_sem_info, bin_sem_step};
+ghost use Rattle.osal_call.specs.Call.{part_of};
 
 mod waiting;
 
 use osal_base::{
     Ack, Bytes, Limits, Moment, Name, ObjType, OsalId, OutOfMemory, Room, Status, Timeout,
 };
+use osal_call::Call;
 use osal_idtable::status_of_name;
 use osal_object::{Objects, Standing, WaitRecord};
 use std::alloc::Global;
@@ -237,5 +239,38 @@ impl BinSemPart {
         ensures { result ≡ is_some (active_at self.now.objects.table id) }
     {
         self.objects.is_active(id)
+    }
+
+    /// Makes a call that is the part's own. The bytes of the reply are left in the room.
+    pub fn apply(
+        &mut self,
+        alloc: Global,
+        task: OsalId,
+        now: Moment,
+        call: &Call,
+        room: &mut Room,
+    ) -> Result<Ack, OutOfMemory>
+        requires { IsTrue (part_of call.now == 3) }
+        ensures step { IfOk result (λ ack. (replied ack room.new, self.new) ≡ bin_sem_step self.old task now call.now) }
+        ensures memory { IsOk result }
+    {
+        match call {
+            Call::BinSemCreate { name, value } => {
+                self.bin_sem_create(alloc, task, now, name, *value, room)
+            }
+            Call::BinSemGive { id } => self.bin_sem_give(alloc, task, now, *id, room),
+            Call::BinSemFlush { id } => self.bin_sem_flush(alloc, task, now, *id, room),
+            Call::BinSemTake { id, wait } => {
+                self.bin_sem_take(alloc, task, now, *id, *wait, room)
+            }
+            Call::BinSemDelete { id } => self.bin_sem_delete(alloc, task, now, *id, room),
+            Call::BinSemFind { name } => self.bin_sem_find(alloc, task, now, name, room),
+            Call::BinSemInfo { id } => self.bin_sem_info(alloc, task, now, *id, room),
+            Call::Hold { id } => self.hold(alloc, task, now, *id, room),
+            Call::Release { id } => self.release(alloc, task, now, *id, room),
+            Call::WaitEnd { part } => self.wait_end(alloc, task, now, *part, room),
+            Call::WaitAbandon { part } => self.wait_abandon(alloc, task, now, *part, room),
+            _ => unreachable!(),
+        }
     }
 }

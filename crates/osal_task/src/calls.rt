@@ -1,11 +1,14 @@
 //! The calls of OSAL's `osapi-task.h`, and the checkpoint.
-ghost use Rattle.std.specs.Prelude.{◌≡◌, IsOk, IfOk};
+ghost use Rattle.std.specs.Prelude.{◌≡◌, IsOk, IfOk, ◌==◌, IsTrue};
 ghost use Rattle.osal_base.specs.Reply.{replied};
 ghost use Rattle.osal_object.specs.Outcomes.{Find, Remove};
 ghost use Rattle.osal_task.specs.Tasks.{done, task_create, task_delete, task_set_priority, task_info, checkpoint};
+ghost use Rattle.osal_call.specs.Call.{part_of};
+ghost use Rattle.osal_task.specs.Calls.{task_step};
 
 use crate::{Task, TaskPart};
 use osal_base::{Ack, Bytes, Moment, Name, OsalId, OutOfMemory, Room, Status};
+use osal_call::Call;
 use osal_idtable::status_of_name;
 use std::alloc::Global;
 
@@ -179,5 +182,42 @@ impl TaskPart {
         }
         let _removed = self.objects.delete(task);
         Ok(Ack::deleted())
+    }
+
+    /// Makes a call that is the part's own. The bytes of the reply are left in the room.
+    pub fn apply(
+        &mut self,
+        alloc: Global,
+        task: OsalId,
+        now: Moment,
+        call: &Call,
+        room: &mut Room,
+    ) -> Result<Ack, OutOfMemory>
+        requires { IsTrue (part_of call.now == 0) }
+        ensures step { IfOk result (λ ack. (replied ack room.new, self.new) ≡ task_step self.old task now call.now) }
+        ensures memory { IsOk result }
+    {
+        match call {
+            Call::TaskCreate {
+                name,
+                body,
+                stack,
+                priority,
+            } => self.task_create(alloc, task, now, name, *body, *stack, *priority, room),
+            Call::TaskExit => self.task_exit(alloc, task, now, room),
+            Call::TaskDelete { id } => self.task_delete(alloc, task, now, *id, room),
+            Call::TaskSetPriority { id, priority } => {
+                self.task_set_priority(alloc, task, now, *id, *priority, room)
+            }
+            Call::TaskFind { name } => self.task_find(alloc, task, now, name, room),
+            Call::TaskInfo { id } => self.task_info(alloc, task, now, *id, room),
+            Call::TaskDelay { ms } => self.task_delay(alloc, task, now, *ms, room),
+            Call::Checkpoint => self.checkpoint(alloc, task, now, room),
+            Call::Hold { id } => self.hold(alloc, task, now, *id, room),
+            Call::Release { id } => self.release(alloc, task, now, *id, room),
+            Call::WaitEnd { part } => self.wait_end(alloc, task, now, *part, room),
+            Call::WaitAbandon { part } => self.wait_abandon(alloc, task, now, *part, room),
+            _ => unreachable!(),
+        }
     }
 }

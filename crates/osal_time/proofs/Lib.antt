@@ -3,3 +3,4 @@ pub mod Each
 pub mod Kept
 pub mod Attached
 pub mod FewFire
+pub mod Window

@@ -9,3 +9,5 @@ pub mod Time
 pub mod Ticks
 pub mod Timers
 pub mod Attachment
+pub mod Calls
+pub mod Window

@@ -1,14 +1,14 @@
 -- The time part: the timebases, the timers, the moment that it is, and what a call does to them.
-use Rattle.std.specs.Prelude.{ℕ, List, Bool, ◌==◌, Option, is_some, nat_lt, if◌then◌else◌}
+use Rattle.std.specs.Prelude.{ℕ, List, Bool, ◌==◌, not, Option, is_some, nat_lt, if◌then◌else◌}
 use Rattle.osal_base.specs.declared.status.Status.TheVariants as status
 use Rattle.osal_base.specs.declared.id.ObjType.TheVariants as kind
 use Rattle.osal_base.specs.declared.limits.Limits.{Limits}
 use Rattle.osal_base.specs.declared.time.Moment.{Moment}
 use Rattle.osal_base.specs.Identifier.{type_number, type_of}
-use Rattle.osal_base.specs.Reply.{Replied, refusal, success}
+use Rattle.osal_base.specs.Reply.{Replied, refusal, success, is_waits}
 use Rattle.osal_idtable.specs.Table.{Active, active_at}
 use Rattle.osal_object.specs.Objects.{ObjectsState, no_objects}
-use Rattle.osal_object.specs.Outcomes.{Write, Outcome, Hold, Release, carried_out}
+use Rattle.osal_object.specs.Outcomes.{Write, Outcome, Refuse, Hold, Release, carried_out}
 use Rattle.osal_object.specs.Across.{across}
 use Rattle.osal_time.specs.Timebase.{Timebase}
 use Rattle.osal_time.specs.declared.timer.Timer.{Timer}
@@ -85,3 +85,11 @@ held id = if is_timer id then OnTimers (Hold id) else OnTimebases (Hold id)
 -- the end of a hold of a timer or a timebase
 abbrev pub released : ℕ → TimeCall
 released id = if is_timer id then OnTimers (Release id) else OnTimebases (Release id)
+
+-- the end of a wait, and its giving up: no call of the part waits
+abbrev pub without_wait : TimeCall
+without_wait = OnTimebases (Refuse status.ErrIncorrectObjState)
+
+-- whether the end of the task's wait would not wait on
+abbrev pub ready : TimeState → ℕ → Moment → Bool
+ready time task now = not (is_waits (done time task now without_wait).0.answer)

@@ -8,6 +8,7 @@ mod ticks;
 mod timebase;
 mod timer;
 mod timers;
+mod waiting;
 
 pub use part::TimePart;
 pub use timebase::Timebase;

@@ -1,11 +1,14 @@
 //! The time part.
-ghost use Rattle.std.specs.Prelude.{◌≡◌, IsOk, IfOk};
+ghost use Rattle.std.specs.Prelude.{◌≡◌, IsOk, IfOk, ◌==◌, IsTrue};
 ghost use Rattle.osal_base.specs.Limits.{Fits};
 ghost use Rattle.osal_base.specs.Reply.{replied};
 ghost use Rattle.osal_time.specs.Time.{time_start, is_timer, is_active, Advance, done, held, released};
+ghost use Rattle.osal_call.specs.Call.{part_of};
+ghost use Rattle.osal_time.specs.Calls.{time_step};
 
 use crate::{Timebase, Timer};
 use osal_base::{Ack, Limits, Moment, ObjType, OsalId, OutOfMemory, Room, Status};
+use osal_call::Call;
 use osal_object::Objects;
 use std::alloc::Global;
 use std::marker::Model;
@@ -140,6 +143,49 @@ impl TimePart {
             self.timers.is_active(id)
         } else {
             self.timebases.is_active(id)
+        }
+    }
+
+    /// Makes a call that is the part's own. The bytes of the reply are left in the room.
+    pub fn apply(
+        &mut self,
+        alloc: Global,
+        task: OsalId,
+        now: Moment,
+        call: &Call,
+        room: &mut Room,
+    ) -> Result<Ack, OutOfMemory>
+        requires { IsTrue (part_of call.now == 6) }
+        ensures step { IfOk result (λ ack. (replied ack room.new, self.new) ≡ time_step self.old task now call.now) }
+        ensures memory { IsOk result }
+    {
+        match call {
+            Call::TimebaseCreate { name } => self.timebase_create(alloc, task, now, name, room),
+            Call::TimebaseTick { id, usecs } => {
+                self.timebase_tick(alloc, task, now, *id, *usecs, room)
+            }
+            Call::TimebaseFreeRun { id } => self.timebase_free_run(alloc, task, now, *id, room),
+            Call::TimebaseDelete { id } => self.timebase_delete(alloc, task, now, *id, room),
+            Call::TimebaseFind { name } => self.timebase_find(alloc, task, now, name, room),
+            Call::TimerAdd {
+                name,
+                timebase,
+                handler,
+            } => self.timer_add(alloc, task, now, name, *timebase, *handler, room),
+            Call::TimerSet {
+                id,
+                start,
+                interval,
+            } => self.timer_set(alloc, task, now, *id, *start, *interval, room),
+            Call::TimerDelete { id } => self.timer_delete(alloc, task, now, *id, room),
+            Call::TimerFind { name } => self.timer_find(alloc, task, now, name, room),
+            Call::TimerInfo { id } => self.timer_info(alloc, task, now, *id, room),
+            Call::Advance { to } => self.advance(alloc, task, now, *to, room),
+            Call::Hold { id } => self.hold(alloc, task, now, *id, room),
+            Call::Release { id } => self.release(alloc, task, now, *id, room),
+            Call::WaitEnd { part } => self.wait_end(alloc, task, now, *part, room),
+            Call::WaitAbandon { part } => self.wait_abandon(alloc, task, now, *part, room),
+            _ => unreachable!(),
         }
     }
 }

@@ -23,24 +23,7 @@ impl Part for BinSemPart {
         call: &Call,
         room: &mut Room,
     ) -> Result<Ack, OutOfMemory> {
-        match call {
-            Call::BinSemCreate { name, value } => {
-                self.bin_sem_create(alloc, task, now, name, *value, room)
-            }
-            Call::BinSemGive { id } => self.bin_sem_give(alloc, task, now, *id, room),
-            Call::BinSemFlush { id } => self.bin_sem_flush(alloc, task, now, *id, room),
-            Call::BinSemTake { id, wait } => {
-                self.bin_sem_take(alloc, task, now, *id, *wait, room)
-            }
-            Call::BinSemDelete { id } => self.bin_sem_delete(alloc, task, now, *id, room),
-            Call::BinSemFind { name } => self.bin_sem_find(alloc, task, now, name, room),
-            Call::BinSemInfo { id } => self.bin_sem_info(alloc, task, now, *id, room),
-            Call::Hold { id } => self.hold(alloc, task, now, *id, room),
-            Call::Release { id } => self.release(alloc, task, now, *id, room),
-            Call::WaitEnd { part } => self.wait_end(alloc, task, now, *part, room),
-            Call::WaitAbandon { part } => self.wait_abandon(alloc, task, now, *part, room),
-            _ => unreachable!(),
-        }
+        self.apply(alloc, task, now, call, room)
     }
 
     fn ready(&self, task: OsalId, now: Moment, part: u32) -> bool {

@@ -23,21 +23,7 @@ impl Part for CondvarPart {
         call: &Call,
         room: &mut Room,
     ) -> Result<Ack, OutOfMemory> {
-        match call {
-            Call::CondvarCreate { name } => self.condvar_create(alloc, task, now, name, room),
-            Call::CondvarLock { id } => self.condvar_lock(alloc, task, now, *id, room),
-            Call::CondvarUnlock { id } => self.condvar_unlock(alloc, task, now, *id, room),
-            Call::CondvarSignal { id } => self.condvar_signal(alloc, task, now, *id, room),
-            Call::CondvarBroadcast { id } => self.condvar_broadcast(alloc, task, now, *id, room),
-            Call::CondvarWait { id, wait } => self.condvar_wait(alloc, task, now, *id, *wait, room),
-            Call::CondvarDelete { id } => self.condvar_delete(alloc, task, now, *id, room),
-            Call::CondvarFind { name } => self.condvar_find(alloc, task, now, name, room),
-            Call::Hold { id } => self.hold(alloc, task, now, *id, room),
-            Call::Release { id } => self.release(alloc, task, now, *id, room),
-            Call::WaitEnd { part } => self.wait_end(alloc, task, now, *part, room),
-            Call::WaitAbandon { part } => self.wait_abandon(alloc, task, now, *part, room),
-            _ => unreachable!(),
-        }
+        self.apply(alloc, task, now, call, room)
     }
 
     fn ready(&self, task: OsalId, now: Moment, part: u32) -> bool {

@@ -23,23 +23,7 @@ impl Part for CountSemPart {
         call: &Call,
         room: &mut Room,
     ) -> Result<Ack, OutOfMemory> {
-        match call {
-            Call::CountSemCreate { name, value } => self.count_sem_create(
-                alloc, task, now, name, *value, room,
-            ),
-            Call::CountSemGive { id } => self.count_sem_give(alloc, task, now, *id, room),
-            Call::CountSemTake { id, wait } => self.count_sem_take(
-                alloc, task, now, *id, *wait, room,
-            ),
-            Call::CountSemDelete { id } => self.count_sem_delete(alloc, task, now, *id, room),
-            Call::CountSemFind { name } => self.count_sem_find(alloc, task, now, name, room),
-            Call::CountSemInfo { id } => self.count_sem_info(alloc, task, now, *id, room),
-            Call::Hold { id } => self.hold(alloc, task, now, *id, room),
-            Call::Release { id } => self.release(alloc, task, now, *id, room),
-            Call::WaitEnd { part } => self.wait_end(alloc, task, now, *part, room),
-            Call::WaitAbandon { part } => self.wait_abandon(alloc, task, now, *part, room),
-            _ => unreachable!(),
-        }
+        self.apply(alloc, task, now, call, room)
     }
 
     fn ready(&self, task: OsalId, now: Moment, part: u32) -> bool {

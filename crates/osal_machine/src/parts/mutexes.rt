@@ -23,19 +23,7 @@ impl Part for MutexPart {
         call: &Call,
         room: &mut Room,
     ) -> Result<Ack, OutOfMemory> {
-        match call {
-            Call::MutSemCreate { name } => self.mut_sem_create(alloc, task, now, name, room),
-            Call::MutSemTake { id } => self.mut_sem_take(alloc, task, now, *id, room),
-            Call::MutSemGive { id } => self.mut_sem_give(alloc, task, now, *id, room),
-            Call::MutSemDelete { id } => self.mut_sem_delete(alloc, task, now, *id, room),
-            Call::MutSemFind { name } => self.mut_sem_find(alloc, task, now, name, room),
-            Call::MutSemInfo { id } => self.mut_sem_info(alloc, task, now, *id, room),
-            Call::Hold { id } => self.hold(alloc, task, now, *id, room),
-            Call::Release { id } => self.release(alloc, task, now, *id, room),
-            Call::WaitEnd { part } => self.wait_end(alloc, task, now, *part, room),
-            Call::WaitAbandon { part } => self.wait_abandon(alloc, task, now, *part, room),
-            _ => unreachable!(),
-        }
+        self.apply(alloc, task, now, call, room)
     }
 
     fn ready(&self, task: OsalId, now: Moment, part: u32) -> bool {

@@ -23,23 +23,7 @@ impl Part for QueuePart {
         call: &Call,
         room: &mut Room,
     ) -> Result<Ack, OutOfMemory> {
-        match call {
-            Call::QueueCreate { name, depth, size } => self.queue_create(
-                alloc, task, now, name, *depth, *size, room,
-            ),
-            Call::QueueDelete { id } => self.queue_delete(alloc, task, now, *id, room),
-            Call::QueuePut { id, payload } => self.queue_put(alloc, task, now, *id, payload, room),
-            Call::QueueGet { id, n, wait } => self.queue_get(
-                alloc, task, now, *id, *n, *wait, room,
-            ),
-            Call::QueueFind { name } => self.queue_find(alloc, task, now, name, room),
-            Call::QueueInfo { id } => self.queue_info(alloc, task, now, *id, room),
-            Call::Hold { id } => self.hold(alloc, task, now, *id, room),
-            Call::Release { id } => self.release(alloc, task, now, *id, room),
-            Call::WaitEnd { part } => self.wait_end(alloc, task, now, *part, room),
-            Call::WaitAbandon { part } => self.wait_abandon(alloc, task, now, *part, room),
-            _ => unreachable!(),
-        }
+        self.apply(alloc, task, now, call, room)
     }
 
     fn ready(&self, task: OsalId, now: Moment, part: u32) -> bool {

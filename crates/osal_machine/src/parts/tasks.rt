@@ -23,28 +23,7 @@ impl Part for TaskPart {
         call: &Call,
         room: &mut Room,
     ) -> Result<Ack, OutOfMemory> {
-        match call {
-            Call::TaskCreate {
-                name,
-                body,
-                stack,
-                priority,
-            } => self.task_create(alloc, task, now, name, *body, *stack, *priority, room),
-            Call::TaskExit => self.task_exit(alloc, task, now, room),
-            Call::TaskDelete { id } => self.task_delete(alloc, task, now, *id, room),
-            Call::TaskSetPriority { id, priority } => {
-                self.task_set_priority(alloc, task, now, *id, *priority, room)
-            }
-            Call::TaskFind { name } => self.task_find(alloc, task, now, name, room),
-            Call::TaskInfo { id } => self.task_info(alloc, task, now, *id, room),
-            Call::TaskDelay { ms } => self.task_delay(alloc, task, now, *ms, room),
-            Call::Checkpoint => self.checkpoint(alloc, task, now, room),
-            Call::Hold { id } => self.hold(alloc, task, now, *id, room),
-            Call::Release { id } => self.release(alloc, task, now, *id, room),
-            Call::WaitEnd { part } => self.wait_end(alloc, task, now, *part, room),
-            Call::WaitAbandon { part } => self.wait_abandon(alloc, task, now, *part, room),
-            _ => unreachable!(),
-        }
+        self.apply(alloc, task, now, call, room)
     }
 
     fn ready(&self, task: OsalId, now: Moment, part: u32) -> bool {

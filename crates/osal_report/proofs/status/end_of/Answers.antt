@@ -3,7 +3,7 @@ use Rattle.std.proofs.Common.{◌==◌, ◌&&◌, ◌||◌, ap, sym, ◌∙◌}
 use Rattle.osal_runs.specs.Segments.{segments_of}
 use Rattle.osal_report.specs.Report.{all_failed}
 use Rattle.osal_report.specs.Ends.{some_stalls}
-use Rattle.osal_report.proofs.Chain.{chain_some}
+use Rattle.osal_runs.proofs.Chain.{chain_some}
 use Rattle.osal_report.proofs.Reading.{no_sum}
 use Rattle.osal_report.proofs.status.end_of.Goals as goal
 

@@ -1,7 +1,7 @@
 -- Each entry is read; no other matters behind the script's end, or behind the next creation.
 use Rattle.std.proofs.Common.{◌≡◌, ◌<◌, not, length, false, ap, sym, ◌∙◌, arith}
 use Rattle.osal_script.specs.Script.{is_ended}
-use Rattle.osal_report.specs.Ends.{begins}
+use Rattle.osal_runs.specs.Spans.{begins}
 use Rattle.osal_report.proofs.Reading.{ends_more, ends_ended, ends_here}
 use Rattle.osal_report.proofs.status.end_of_task.Goals as goal
 

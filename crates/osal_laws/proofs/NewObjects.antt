@@ -1,0 +1,95 @@
+-- An object that becomes active is not held, and no wait stands on it.
+use Rattle.std.proofs.Common.{◌≡◌, ℕ, Bool, true, false, cond, List, Option, Some, is_some, Result, Ok, Err, None, inl, inr, refl, sym, ap, ◌∙◌, arith}
+use Rattle.std.specs.FinMap as map
+use Rattle.std.proofs.lemmas.Bool.{cases_eq, both_ways}
+use Rattle.osal_idtable.specs.declared.table.IdFault.{IdFault}
+use Rattle.osal_idtable.specs.declared.table.ReserveFault.{ReserveFault}
+use Rattle.osal_idtable.specs.Table.{Active, TableState, Reserved, active_at}
+use Rattle.osal_idtable.specs.Steps.{reserve_step, settle, take_out, unheld}
+use Rattle.osal_idtable.proofs.WellFormed.{put_here, gone_here, gone_there}
+use Rattle.osal_object.specs.Objects.{ObjectsState, created}
+use Rattle.osal_object.specs.Waits.{waits_on}
+use Rattle.osal_object.specs.Moves.{Move, Create, Remove, Changes, moved}
+use Rattle.osal_object.specs.ObjectLaws.{IsCounted, holds_of}
+use Rattle.osal_object.proofs.Activity.{changes_alike, reserve_active, settle_elsewhere}
+use Rattle.osal_object.proofs.HeldEach.{there, one_there}
+use Rattle.osal_object.proofs.Moves.{IsMove, is_there}
+use Rattle.osal_time.specs.Time.{is_timer}
+use Rattle.osal_call.specs.declared.call.Entry.{Entry}
+use Rattle.osal_machine.specs.Parts.{is_active_in}
+use Rattle.osal_machine.specs.Step.{MachineState, part_in}
+use Rattle.osal_machine.specs.History.{after_entry}
+use Rattle.osal_laws.specs.Laws.{AreCounted, holds_in}
+use Rattle.osal_laws.specs.Holds.{waits_in}
+use Rattle.osal_laws.proofs.Own.{by_number}
+use Rattle.osal_laws.proofs.PartMoves.{tasks_in, tasks_move, queues_in, queues_move, count_sems_in, count_sems_move, bin_sems_in, bin_sems_move, mutexes_in, mutexes_move, condvars_in, condvars_move, timebases_in, timebases_move, timers_in, timers_move}
+use Rattle.osal_laws.proofs.Replays.{entry_moves}
+
+settled_new : {T : Type 0} (table : TableState T) (id : ℕ) (o : Option (Option (List ℕ))) (object : T) (b : Active T) → is_some (active_at table id) ≡ false → active_at (settle table id o (Some object)) id ≡ Some b → b.holds ≡ 0
+settled_new table id None object b none now = absurd (both_ways _ none (ap is_some now))
+settled_new table id (Some name) object b none now =
+    let new : Active _ = record { name = name; holds = 0; object = object } in
+    ap (λ (x : Active _). x.holds) (one_there (active_at (settle table id (Some name) (Some object)) id) b new now (put_here table.active id new))
+
+module _ {T W : Type 0} (objects : ObjectsState T W) (q : ℕ) (none : is_there objects q ≡ false) (b : Active T) where
+  created_new : (name : List ℕ) (object : T) (r : Result Reserved ReserveFault) → active_at (created objects object r (reserve_step objects.table (Some name)).1).1.table q ≡ Some b → b.holds ≡ 0
+  created_new name object (Err fault) now = absurd (both_ways _ none (ap is_some now))
+  created_new name object (Ok reserved) now =
+      let table = (reserve_step objects.table (Some name)).1 in
+      let same_map = reserve_active objects.table (Some name) in
+      elim (cases_eq q reserved.id) [
+        | inl same ↦
+            settled_new table reserved.id (map.get table.reserved reserved.id) object b
+            (ap (λ m. is_some (map.get m reserved.id)) same_map ∙ ap (λ k. is_some (active_at objects.table k)) (sym same) ∙ none)
+            (ap (active_at (settle table reserved.id (map.get table.reserved reserved.id) (Some object))) (sym same) ∙ now)
+        | inr ne ↦
+            let kept = settle_elsewhere table reserved.id (map.get table.reserved reserved.id) object q ne ∙ ap (λ m. map.get m q) same_map in
+            absurd (both_ways (is_there objects q) none (ap is_some (sym kept ∙ now)))
+      ]
+
+  taken_new : (id : ℕ) (r : Result T IdFault) → active_at (take_out objects.table id r).1 q ≡ Some b → b.holds ≡ 0
+  taken_new id (Err fault) now = absurd (both_ways _ none (ap is_some now))
+  taken_new id (Ok object) now =
+      elim (cases_eq q id) [
+        | inl same ↦
+            let gone : map.get (map.remove objects.table.active id) q ≡ None = ap (map.get (map.remove objects.table.active id)) same ∙ gone_here objects.table.active id in
+            absurd (both_ways _ (ap is_some gone) (ap is_some now))
+        | inr ne ↦
+            absurd (both_ways (is_there objects q) none (ap is_some (sym (gone_there objects.table.active id q ne) ∙ now)))
+      ]
+
+  moved_new : (move : Move T W) → active_at (moved objects move).table q ≡ Some b → b.holds ≡ 0
+  moved_new (Create name object) now = created_new name object (reserve_step objects.table (Some name)).0 now
+  moved_new (Remove id) now = taken_new id (unheld (active_at objects.table id)) now
+  moved_new (Changes changes) now =
+      absurd (both_ways (is_there objects q) none (sym (changes_alike objects changes q) ∙ ap is_some now))
+
+-- what a move makes active has as many holds as waits that stand on it: none
+move_new : {T W : Type 0} (q : ℕ) (old new : ObjectsState T W) → IsMove old new → IsCounted new → is_there old q ≡ false → is_there new q ≡ true → holds_of (active_at new.table q) ≡ waits_on new.waits q
+move_new q old new by counted none some =
+    let found = there (active_at new.table q) some in
+    let zero = moved_new old q none found.0 by.move (ap (λ (o : ObjectsState _ _). active_at o.table q) (sym by.is) ∙ found.1) in
+    let held = counted.held q found.0 found.1 in
+    let waits = held.waits in
+    let holds = ap holds_of found.1 in
+    omega arith
+
+either_new : (own : Bool) {a b c d : Bool} {m n k l : ℕ} → (a ≡ false → c ≡ true → m ≡ k) → (b ≡ false → d ≡ true → n ≡ l) → cond own a b ≡ false → cond own c d ≡ true → cond own m n ≡ cond own k l
+either_new true one other = one
+either_new false one other = other
+
+module _ (state : MachineState) (entry : Entry) (counted : AreCounted (after_entry state entry)) (q : ℕ) where
+  -- what an entry makes active has as many holds as waits that stand on it
+  pub entry_new : (part : ℕ) → is_active_in (part_in part state) q ≡ false → is_active_in (part_in part (after_entry state entry)) q ≡ true → holds_in (part_in part (after_entry state entry)) q ≡ waits_in (part_in part (after_entry state entry)) q
+  entry_new =
+      by_number (λ n p. is_active_in (part_in n state) q ≡ false → is_active_in p q ≡ true → holds_in p q ≡ waits_in p q) (after_entry state entry)
+      (move_new q state.tasks.objects _ (entry_moves tasks_in tasks_move 0 state entry) counted.tasks)
+      (move_new q state.queues.objects _ (entry_moves queues_in queues_move 1 state entry) counted.queues)
+      (move_new q state.count_sems.objects _ (entry_moves count_sems_in count_sems_move 2 state entry) counted.count_sems)
+      (move_new q state.bin_sems.objects _ (entry_moves bin_sems_in bin_sems_move 3 state entry) counted.bin_sems)
+      (move_new q state.mutexes.objects _ (entry_moves mutexes_in mutexes_move 4 state entry) counted.mutexes)
+      (move_new q state.condvars.objects _ (entry_moves condvars_in condvars_move 5 state entry) counted.condvars)
+      (either_new (is_timer q)
+      (move_new q state.time.timers _ (entry_moves timers_in timers_move 6 state entry) counted.timers)
+      (move_new q state.time.timebases _ (entry_moves timebases_in timebases_move 6 state entry) counted.timebases))
+      (λ n was now. absurd (both_ways false refl now))
