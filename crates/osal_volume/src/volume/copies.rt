@@ -1,11 +1,10 @@
 //! Copies of files.
-ghost use Rattle.std.specs.Prelude.{◌≡◌};
-ghost use Rattle.osal_blocks.specs.Blocks.{blocks_for};
 
 use super::Volume;
 use super::find::{file_number, is_one_file, parent_of};
 use crate::fault::{Kind, VolFault};
 use osal_base::Name;
+use osal_blocks::blocks_for;
 use osal_tree::Kind as Node;
 
 impl Volume {
@@ -91,11 +90,4 @@ impl Volume {
             None => self.tree.count() >= 256 || blocks_for(size) > self.blocks.free(),
         }
     }
-}
-
-// How many blocks so many bytes take.
-fn blocks_for(size: u32) -> u32
-    ensures { result ≡ blocks_for size }
-{
-    size.div_ceil(512)
 }
