@@ -1,6 +1,6 @@
 -- What each call of the machine is: one row a call. Behind them the calls that a line of an application may make, by the
 -- shape of their arguments, with their words.
-use Rattle.std.specs.Prelude.{◌==◌, ◌&&◌, ℕ, Bool, true, false, List, [], ◌∷◌, Option, Some, None, codes, is_some, length, nat_lt, if◌then◌else◌}
+use Rattle.std.specs.Prelude.{◌==◌, ◌&&◌, ◌||◌, ℕ, Bool, true, false, List, [], ◌∷◌, Option, Some, None, codes, is_some, length, nat_lt, if◌then◌else◌}
 use Rattle.std.specs.List.{find}
 use Rattle.std.specs.Str.{bytes_eq}
 use Rattle.osal_base.specs.declared.time.Timeout.{Timeout}
@@ -21,6 +21,10 @@ use Rattle.osal_call.specs.declared.word.ValueWord.{ValueWord}
 use Rattle.osal_call.specs.declared.word.ValueWord.TheVariants as value_word
 use Rattle.osal_call.specs.declared.word.NumberWord.{NumberWord}
 use Rattle.osal_call.specs.declared.word.NumberWord.TheVariants as number_word
+use Rattle.osal_call.specs.declared.word.PathWord.{PathWord}
+use Rattle.osal_call.specs.declared.word.PathWord.TheVariants as path_word
+use Rattle.osal_call.specs.declared.word.PathsWord.{PathsWord}
+use Rattle.osal_call.specs.declared.word.PathsWord.TheVariants as paths_word
 use Rattle.osal_call.specs.declared.word.CallWord.{CallWord}
 use Rattle.osal_call.specs.declared.word.CallWord.TheVariants as word
 
@@ -58,6 +62,8 @@ pub data Table : Type 0 where
   Condvars : Table
   Timebases : Table
   Timers : Table
+  Streams : Table
+  Directories : Table
   OfType : Table
 
 -- the object that a call is on: none, the calling task, or the one under an identifier
@@ -107,6 +113,8 @@ part_of_table Mutexes id = 4
 part_of_table Condvars id = 5
 part_of_table Timebases id = 6
 part_of_table Timers id = 6
+part_of_table Streams id = 7
+part_of_table Directories id = 7
 part_of_table OfType id = part_of_id id
 
 -- a call on an object of a table
@@ -167,17 +175,39 @@ signature (call.TimerDelete id) = on Timers id
 signature (call.TimerFind name) = plain 6
 signature (call.TimerInfo id) = on Timers id
 signature (call.Advance to) = record (plain 6) { role = Advances }
+signature (call.Mkfs device label blocks) = record (plain 7) { takes_memory = true }
+signature (call.Mount device path) = plain 7
+signature (call.Unmount path) = plain 7
+signature (call.Rmfs device) = plain 7
+signature (call.StatVolume path) = plain 7
+signature (call.Open path flags access) = plain 7
+signature (call.Read id n wait) = record (on Streams id) { refused_before = (n == 0) || nat_lt 1024 n }
+signature (call.Write id payload) =
+    record (on Streams id) { refused_before = (length payload.bytes == 0) || nat_lt 4096 (length payload.bytes) }
+signature (call.Lseek id offset whence) = on Streams id
+signature (call.Close id) = on Streams id
+signature (call.Remove path) = plain 7
+signature (call.Rename path to) = plain 7
+signature (call.Cp path to) = plain 7
+signature (call.Stat path) = plain 7
+signature (call.Mkdir path) = plain 7
+signature (call.Rmdir path) = plain 7
+signature (call.DirOpen path) = record (plain 7) { takes_memory = true }
+signature (call.DirRead id) = on Directories id
+signature (call.DirRewind id) = on Directories id
+signature (call.DirClose id) = on Directories id
 signature (call.Hold id) = on OfType id
 signature (call.Release id) = on OfType id
 signature (call.WaitEnd part) = record (plain (part_of_wait part)) { role = Ends }
 signature (call.WaitAbandon part) = record (plain (part_of_wait part)) { role = Abandons }
 
 -- the number of the part whose call it is: 0 for tasks, 1 for queues, 2 and 3 for counting and binary semaphores, 4 for
--- mutexes, 5 for condition variables, 6 for time
+-- mutexes, 5 for condition variables, 6 for time, 7 for files
 abbrev pub part_of : Call → ℕ
 part_of made = (signature made).part
 
--- whether a call may take memory: a queue takes its storage when it is made
+-- whether a call may take memory: a queue and a volume take their storage when they are made, a directory its names when
+-- it is opened
 abbrev pub takes_memory : Call → Bool
 takes_memory made = (signature made).takes_memory
 
@@ -244,6 +274,10 @@ object_call object.TimebaseFreeRun id = call.TimebaseFreeRun id
 object_call object.TimebaseDelete id = call.TimebaseDelete id
 object_call object.TimerDelete id = call.TimerDelete id
 object_call object.TimerInfo id = call.TimerInfo id
+object_call object.Close id = call.Close id
+object_call object.DirRead id = call.DirRead id
+object_call object.DirRewind id = call.DirRewind id
+object_call object.DirClose id = call.DirClose id
 object_call object.Hold id = call.Hold id
 object_call object.Release id = call.Release id
 
@@ -260,6 +294,7 @@ name_call name_word.CondvarFind text = call.CondvarFind text
 name_call name_word.TimebaseCreate text = call.TimebaseCreate text
 name_call name_word.TimebaseFind text = call.TimebaseFind text
 name_call name_word.TimerFind text = call.TimerFind text
+name_call name_word.DirOpen text = call.DirOpen text
 
 -- the call on an object, with a wait
 abbrev pub wait_call : WaitWord → ℕ → Timeout → Call
@@ -276,6 +311,22 @@ value_call value_word.BinSemCreate text initial = call.BinSemCreate text initial
 abbrev pub number_call : NumberWord → ℕ → ℕ → Call
 number_call number_word.TaskSetPriority id amount = call.TaskSetPriority id amount
 number_call number_word.TimebaseTick id amount = call.TimebaseTick id amount
+
+-- the call with a path or a device
+abbrev pub path_call : PathWord → Text → Call
+path_call path_word.Unmount text = call.Unmount text
+path_call path_word.Rmfs text = call.Rmfs text
+path_call path_word.StatVolume text = call.StatVolume text
+path_call path_word.Remove text = call.Remove text
+path_call path_word.Stat text = call.Stat text
+path_call path_word.Mkdir text = call.Mkdir text
+path_call path_word.Rmdir text = call.Rmdir text
+
+-- the call with two paths, or a device and a path
+abbrev pub paths_call : PathsWord → Text → Text → Call
+paths_call paths_word.Mount text to = call.Mount text to
+paths_call paths_word.Rename text to = call.Rename text to
+paths_call paths_word.Cp text to = call.Cp text to
 
 -- the words of the calls with an identifier alone
 abbrev pub object_text : ObjectWord → List ℕ
@@ -303,6 +354,10 @@ object_text object.TimebaseFreeRun = codes "timebase_free_run"
 object_text object.TimebaseDelete = codes "timebase_delete"
 object_text object.TimerDelete = codes "timer_delete"
 object_text object.TimerInfo = codes "timer_info"
+object_text object.Close = codes "close"
+object_text object.DirRead = codes "dir_read"
+object_text object.DirRewind = codes "dir_rewind"
+object_text object.DirClose = codes "dir_close"
 object_text object.Hold = codes "hold"
 object_text object.Release = codes "release"
 
@@ -319,6 +374,7 @@ name_text name_word.CondvarFind = codes "condvar_find"
 name_text name_word.TimebaseCreate = codes "timebase_create"
 name_text name_word.TimebaseFind = codes "timebase_find"
 name_text name_word.TimerFind = codes "timer_find"
+name_text name_word.DirOpen = codes "dir_open"
 
 -- the words of the calls with an identifier and a wait
 abbrev pub wait_text : WaitWord → List ℕ
@@ -336,6 +392,22 @@ abbrev pub number_text : NumberWord → List ℕ
 number_text number_word.TaskSetPriority = codes "task_set_priority"
 number_text number_word.TimebaseTick = codes "timebase_tick"
 
+-- the words of the calls with a path or a device
+abbrev pub path_text : PathWord → List ℕ
+path_text path_word.Unmount = codes "unmount"
+path_text path_word.Rmfs = codes "rmfs"
+path_text path_word.StatVolume = codes "stat_volume"
+path_text path_word.Remove = codes "remove"
+path_text path_word.Stat = codes "stat"
+path_text path_word.Mkdir = codes "mkdir"
+path_text path_word.Rmdir = codes "rmdir"
+
+-- the words of the calls with two paths
+abbrev pub paths_text : PathsWord → List ℕ
+paths_text paths_word.Mount = codes "mount"
+paths_text paths_word.Rename = codes "rename"
+paths_text paths_word.Cp = codes "cp"
+
 -- the word of a call
 abbrev pub word_text : CallWord → List ℕ
 word_text (word.Object called) = object_text called
@@ -343,6 +415,8 @@ word_text (word.Name called) = name_text called
 word_text (word.Wait called) = wait_text called
 word_text (word.Value called) = value_text called
 word_text (word.Number called) = number_text called
+word_text (word.Path called) = path_text called
+word_text (word.Paths called) = paths_text called
 word_text word.TaskCreate = codes "task_create"
 word_text word.TaskExit = codes "task_exit"
 word_text word.TaskDelay = codes "task_delay"
@@ -351,6 +425,11 @@ word_text word.QueuePut = codes "queue_put"
 word_text word.QueueGet = codes "queue_get"
 word_text word.TimerAdd = codes "timer_add"
 word_text word.TimerSet = codes "timer_set"
+word_text word.Mkfs = codes "mkfs"
+word_text word.Open = codes "open"
+word_text word.Read = codes "read"
+word_text word.Write = codes "write"
+word_text word.Lseek = codes "lseek"
 
 -- the calls that a line may make
 abbrev pub call_words : List CallWord
@@ -363,15 +442,19 @@ call_words =
     ∷ word.Object object.CondvarLock ∷ word.Object object.CondvarUnlock ∷ word.Object object.CondvarSignal
     ∷ word.Object object.CondvarBroadcast ∷ word.Object object.CondvarDelete
     ∷ word.Object object.TimebaseFreeRun ∷ word.Object object.TimebaseDelete ∷ word.Object object.TimerDelete
-    ∷ word.Object object.TimerInfo ∷ word.Object object.Hold ∷ word.Object object.Release
+    ∷ word.Object object.TimerInfo ∷ word.Object object.Close ∷ word.Object object.DirRead
+    ∷ word.Object object.DirRewind ∷ word.Object object.DirClose ∷ word.Object object.Hold ∷ word.Object object.Release
     ∷ word.Name name_word.TaskFind ∷ word.Name name_word.QueueFind ∷ word.Name name_word.CountSemFind
     ∷ word.Name name_word.BinSemFind ∷ word.Name name_word.MutSemCreate ∷ word.Name name_word.MutSemFind
     ∷ word.Name name_word.CondvarCreate ∷ word.Name name_word.CondvarFind ∷ word.Name name_word.TimebaseCreate
-    ∷ word.Name name_word.TimebaseFind ∷ word.Name name_word.TimerFind ∷ word.Wait wait_word.CountSemTake
+    ∷ word.Name name_word.TimebaseFind ∷ word.Name name_word.TimerFind ∷ word.Name name_word.DirOpen ∷ word.Wait wait_word.CountSemTake
     ∷ word.Wait wait_word.BinSemTake ∷ word.Wait wait_word.CondvarWait ∷ word.Value value_word.CountSemCreate
     ∷ word.Value value_word.BinSemCreate ∷ word.Number number_word.TaskSetPriority ∷ word.Number number_word.TimebaseTick
+    ∷ word.Path path_word.Unmount ∷ word.Path path_word.Rmfs ∷ word.Path path_word.StatVolume
+    ∷ word.Path path_word.Remove ∷ word.Path path_word.Stat ∷ word.Path path_word.Mkdir ∷ word.Path path_word.Rmdir
+    ∷ word.Paths paths_word.Mount ∷ word.Paths paths_word.Rename ∷ word.Paths paths_word.Cp
     ∷ word.TaskCreate ∷ word.TaskExit ∷ word.TaskDelay ∷ word.QueueCreate ∷ word.QueuePut ∷ word.QueueGet
-    ∷ word.TimerAdd ∷ word.TimerSet ∷ []
+    ∷ word.TimerAdd ∷ word.TimerSet ∷ word.Mkfs ∷ word.Open ∷ word.Read ∷ word.Write ∷ word.Lseek ∷ []
 
 -- the call that a word names
 abbrev pub call_word : List ℕ → Option CallWord

@@ -2,7 +2,7 @@
 ghost use Rattle.std.specs.Prelude.{◌≡◌};
 ghost use Rattle.osal_call.specs.Call as of_call;
 
-use osal_base::{Bytes, Moment, OsalId, Reply, Timeout};
+use osal_base::{Access, Bytes, Moment, OpenFlags, OsalId, Reply, Timeout, Whence};
 
 /// A call with its arguments.
 #[derive(Drop)]
@@ -230,6 +230,98 @@ pub enum Call {
     Advance {
         to: u64,
     },
+    /// `OS_mkfs`: a RAM volume of so many blocks of 512 bytes.
+    Mkfs {
+        device: Bytes,
+        label: Bytes,
+        blocks: u32,
+    },
+    /// `OS_mount`.
+    Mount {
+        device: Bytes,
+        path: Bytes,
+    },
+    /// `OS_unmount`.
+    Unmount {
+        path: Bytes,
+    },
+    /// `OS_rmfs`.
+    Rmfs {
+        device: Bytes,
+    },
+    /// `OS_FileSysStatVolume`.
+    StatVolume {
+        path: Bytes,
+    },
+    /// `OS_OpenCreate`.
+    Open {
+        path: Bytes,
+        flags: OpenFlags,
+        access: Access,
+    },
+    /// `OS_read` and `OS_TimedRead`, with room for `n` bytes.
+    Read {
+        id: OsalId,
+        n: u32,
+        wait: Timeout,
+    },
+    /// `OS_write`.
+    Write {
+        id: OsalId,
+        payload: Bytes,
+    },
+    /// `OS_lseek`.
+    Lseek {
+        id: OsalId,
+        offset: i64,
+        whence: Whence,
+    },
+    /// `OS_close`.
+    Close {
+        id: OsalId,
+    },
+    /// `OS_remove`.
+    Remove {
+        path: Bytes,
+    },
+    /// `OS_rename`.
+    Rename {
+        path: Bytes,
+        to: Bytes,
+    },
+    /// `OS_cp`.
+    Cp {
+        path: Bytes,
+        to: Bytes,
+    },
+    /// `OS_stat`.
+    Stat {
+        path: Bytes,
+    },
+    /// `OS_mkdir`.
+    Mkdir {
+        path: Bytes,
+    },
+    /// `OS_rmdir`.
+    Rmdir {
+        path: Bytes,
+    },
+    /// `OS_DirectoryOpen`.
+    DirOpen {
+        path: Bytes,
+    },
+    /// `OS_DirectoryRead`.
+    DirRead {
+        id: OsalId,
+    },
+    /// `OS_DirectoryRewind`.
+    DirRewind {
+        id: OsalId,
+    },
+    /// `OS_DirectoryClose`.
+    DirClose {
+        id: OsalId,
+    },
     /// Holds an object, so that it is not removed.
     Hold {
         id: OsalId,
@@ -284,7 +376,7 @@ pub fn part_of_id(id: OsalId) -> u32
 }
 
 /// The number of the part whose call it is: 0 for tasks, 1 for queues, 2 and 3 for counting and binary semaphores,
-/// 4 for mutexes, 5 for condition variables, 6 for time.
+/// 4 for mutexes, 5 for condition variables, 6 for time, 7 for files.
 ///
 /// A hold and a release go to the part of the identifier's type, the end of a wait to the part of its number.
 /// What has no part goes to part 0.
@@ -344,6 +436,26 @@ pub fn part_of(call: &Call) -> u32
         | Call::TimerFind { .. }
         | Call::TimerInfo { .. }
         | Call::Advance { .. } => 6,
+        Call::Mkfs { .. }
+        | Call::Mount { .. }
+        | Call::Unmount { .. }
+        | Call::Rmfs { .. }
+        | Call::StatVolume { .. }
+        | Call::Open { .. }
+        | Call::Read { .. }
+        | Call::Write { .. }
+        | Call::Lseek { .. }
+        | Call::Close { .. }
+        | Call::Remove { .. }
+        | Call::Rename { .. }
+        | Call::Cp { .. }
+        | Call::Stat { .. }
+        | Call::Mkdir { .. }
+        | Call::Rmdir { .. }
+        | Call::DirOpen { .. }
+        | Call::DirRead { .. }
+        | Call::DirRewind { .. }
+        | Call::DirClose { .. } => 7,
         Call::Hold { id } | Call::Release { id } => part_of_id(*id),
         Call::WaitEnd { part } | Call::WaitAbandon { part } => { if 8 < *part { 0 } else { *part } }
     }

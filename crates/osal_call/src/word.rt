@@ -36,11 +36,15 @@ pub enum ObjectWord {
     TimebaseDelete,
     TimerDelete,
     TimerInfo,
+    Close,
+    DirRead,
+    DirRewind,
+    DirClose,
     Hold,
     Release,
 }
 
-/// The calls with a name alone, whose success gives an identifier.
+/// The calls with a name or a path alone, whose success gives an identifier.
 #[derive(Clone, Copy)]
 pub enum NameWord {
     TaskFind,
@@ -54,6 +58,7 @@ pub enum NameWord {
     TimebaseCreate,
     TimebaseFind,
     TimerFind,
+    DirOpen,
 }
 
 /// The calls with an identifier and a wait.
@@ -78,6 +83,26 @@ pub enum NumberWord {
     TimebaseTick,
 }
 
+/// The calls with a path or a device alone.
+#[derive(Clone, Copy)]
+pub enum PathWord {
+    Unmount,
+    Rmfs,
+    StatVolume,
+    Remove,
+    Stat,
+    Mkdir,
+    Rmdir,
+}
+
+/// The calls with two paths, or a device and a path.
+#[derive(Clone, Copy)]
+pub enum PathsWord {
+    Mount,
+    Rename,
+    Cp,
+}
+
 /// The calls that a line may make.
 #[derive(Clone, Copy)]
 pub enum CallWord {
@@ -86,6 +111,8 @@ pub enum CallWord {
     Wait(WaitWord),
     Value(ValueWord),
     Number(NumberWord),
+    Path(PathWord),
+    Paths(PathsWord),
     TaskCreate,
     TaskExit,
     TaskDelay,
@@ -94,6 +121,11 @@ pub enum CallWord {
     QueueGet,
     TimerAdd,
     TimerSet,
+    Mkfs,
+    Open,
+    Read,
+    Write,
+    Lseek,
 }
 
 impl ObjectWord {
@@ -127,6 +159,10 @@ impl ObjectWord {
             ObjectWord::TimebaseDelete => Call::TimebaseDelete { id },
             ObjectWord::TimerDelete => Call::TimerDelete { id },
             ObjectWord::TimerInfo => Call::TimerInfo { id },
+            ObjectWord::Close => Call::Close { id },
+            ObjectWord::DirRead => Call::DirRead { id },
+            ObjectWord::DirRewind => Call::DirRewind { id },
+            ObjectWord::DirClose => Call::DirClose { id },
             ObjectWord::Hold => Call::Hold { id },
             ObjectWord::Release => Call::Release { id },
         }
@@ -160,6 +196,10 @@ impl ObjectWord {
             ObjectWord::TimebaseDelete => b"timebase_delete",
             ObjectWord::TimerDelete => b"timer_delete",
             ObjectWord::TimerInfo => b"timer_info",
+            ObjectWord::Close => b"close",
+            ObjectWord::DirRead => b"dir_read",
+            ObjectWord::DirRewind => b"dir_rewind",
+            ObjectWord::DirClose => b"dir_close",
             ObjectWord::Hold => b"hold",
             ObjectWord::Release => b"release",
         }
@@ -183,6 +223,7 @@ impl NameWord {
             NameWord::TimebaseCreate => Call::TimebaseCreate { name },
             NameWord::TimebaseFind => Call::TimebaseFind { name },
             NameWord::TimerFind => Call::TimerFind { name },
+            NameWord::DirOpen => Call::DirOpen { path: name },
         }
     }
 
@@ -198,6 +239,7 @@ impl NameWord {
             NameWord::MutSemCreate | NameWord::MutSemFind => 4,
             NameWord::CondvarCreate | NameWord::CondvarFind => 5,
             NameWord::TimebaseCreate | NameWord::TimebaseFind | NameWord::TimerFind => 6,
+            NameWord::DirOpen => 7,
         }
     }
 
@@ -216,6 +258,7 @@ impl NameWord {
             NameWord::TimebaseCreate => b"timebase_create",
             NameWord::TimebaseFind => b"timebase_find",
             NameWord::TimerFind => b"timer_find",
+            NameWord::DirOpen => b"dir_open",
         }
     }
 }
@@ -300,6 +343,63 @@ impl NumberWord {
     }
 }
 
+impl PathWord {
+    /// The call with a path or a device.
+    pub fn call(self, path: Bytes) -> Call
+        ensures { said result ≡ words.path_call self (text_of path.bytes) }
+    {
+        match self {
+            PathWord::Unmount => Call::Unmount { path },
+            PathWord::Rmfs => Call::Rmfs { device: path },
+            PathWord::StatVolume => Call::StatVolume { path },
+            PathWord::Remove => Call::Remove { path },
+            PathWord::Stat => Call::Stat { path },
+            PathWord::Mkdir => Call::Mkdir { path },
+            PathWord::Rmdir => Call::Rmdir { path },
+        }
+    }
+
+    fn text(self) -> &'static [u8]
+        ensures { result.now ≡ words.path_text self }
+    {
+        match self {
+            PathWord::Unmount => b"unmount",
+            PathWord::Rmfs => b"rmfs",
+            PathWord::StatVolume => b"stat_volume",
+            PathWord::Remove => b"remove",
+            PathWord::Stat => b"stat",
+            PathWord::Mkdir => b"mkdir",
+            PathWord::Rmdir => b"rmdir",
+        }
+    }
+}
+
+impl PathsWord {
+    /// The call with two paths, or a device and a path.
+    pub fn call(self, path: Bytes, to: Bytes) -> Call
+        ensures { said result ≡ words.paths_call self (text_of path.bytes) (text_of to.bytes) }
+    {
+        match self {
+            PathsWord::Mount => Call::Mount {
+                device: path,
+                path: to,
+            },
+            PathsWord::Rename => Call::Rename { path, to },
+            PathsWord::Cp => Call::Cp { path, to },
+        }
+    }
+
+    fn text(self) -> &'static [u8]
+        ensures { result.now ≡ words.paths_text self }
+    {
+        match self {
+            PathsWord::Mount => b"mount",
+            PathsWord::Rename => b"rename",
+            PathsWord::Cp => b"cp",
+        }
+    }
+}
+
 impl CallWord {
     /// The word of the call, as lines and reports write it.
     pub fn text(self) -> &'static [u8]
@@ -311,6 +411,8 @@ impl CallWord {
             CallWord::Wait(word) => word.text(),
             CallWord::Value(word) => word.text(),
             CallWord::Number(word) => word.text(),
+            CallWord::Path(word) => word.text(),
+            CallWord::Paths(word) => word.text(),
             CallWord::TaskCreate => b"task_create",
             CallWord::TaskExit => b"task_exit",
             CallWord::TaskDelay => b"task_delay",
@@ -319,12 +421,17 @@ impl CallWord {
             CallWord::QueueGet => b"queue_get",
             CallWord::TimerAdd => b"timer_add",
             CallWord::TimerSet => b"timer_set",
+            CallWord::Mkfs => b"mkfs",
+            CallWord::Open => b"open",
+            CallWord::Read => b"read",
+            CallWord::Write => b"write",
+            CallWord::Lseek => b"lseek",
         }
     }
 }
 
 /// Every call that a line may make.
-const WORDS: [CallWord; 52] = [
+const WORDS: [CallWord; 72] = [
     CallWord::Object(ObjectWord::TaskDelete),
     CallWord::Object(ObjectWord::TaskInfo),
     CallWord::Object(ObjectWord::QueueDelete),
@@ -349,6 +456,10 @@ const WORDS: [CallWord; 52] = [
     CallWord::Object(ObjectWord::TimebaseDelete),
     CallWord::Object(ObjectWord::TimerDelete),
     CallWord::Object(ObjectWord::TimerInfo),
+    CallWord::Object(ObjectWord::Close),
+    CallWord::Object(ObjectWord::DirRead),
+    CallWord::Object(ObjectWord::DirRewind),
+    CallWord::Object(ObjectWord::DirClose),
     CallWord::Object(ObjectWord::Hold),
     CallWord::Object(ObjectWord::Release),
     CallWord::Name(NameWord::TaskFind),
@@ -362,6 +473,7 @@ const WORDS: [CallWord; 52] = [
     CallWord::Name(NameWord::TimebaseCreate),
     CallWord::Name(NameWord::TimebaseFind),
     CallWord::Name(NameWord::TimerFind),
+    CallWord::Name(NameWord::DirOpen),
     CallWord::Wait(WaitWord::CountSemTake),
     CallWord::Wait(WaitWord::BinSemTake),
     CallWord::Wait(WaitWord::CondvarWait),
@@ -369,6 +481,16 @@ const WORDS: [CallWord; 52] = [
     CallWord::Value(ValueWord::BinSemCreate),
     CallWord::Number(NumberWord::TaskSetPriority),
     CallWord::Number(NumberWord::TimebaseTick),
+    CallWord::Path(PathWord::Unmount),
+    CallWord::Path(PathWord::Rmfs),
+    CallWord::Path(PathWord::StatVolume),
+    CallWord::Path(PathWord::Remove),
+    CallWord::Path(PathWord::Stat),
+    CallWord::Path(PathWord::Mkdir),
+    CallWord::Path(PathWord::Rmdir),
+    CallWord::Paths(PathsWord::Mount),
+    CallWord::Paths(PathsWord::Rename),
+    CallWord::Paths(PathsWord::Cp),
     CallWord::TaskCreate,
     CallWord::TaskExit,
     CallWord::TaskDelay,
@@ -377,6 +499,11 @@ const WORDS: [CallWord; 52] = [
     CallWord::QueueGet,
     CallWord::TimerAdd,
     CallWord::TimerSet,
+    CallWord::Mkfs,
+    CallWord::Open,
+    CallWord::Read,
+    CallWord::Write,
+    CallWord::Lseek,
 ];
 
 /// The call that a word names. It looks at each word at most.

@@ -132,7 +132,7 @@ end
     ),
     (
         "a call that is not built",
-        "osal-app 1\ntask main\nmkfs \"RAM0\" 64\nend\n",
+        "osal-app 1\ntask main\nsocket_open $s stream\nend\n",
         2,
         "osal-run: line 3: unbuilt\n",
     ),

@@ -52,7 +52,7 @@ module _ {T W : Type 0} (objects : ObjectsState T W) (typed : objects.table.kind
       λ good. record { free = not-true _ passes; small = small_task objects.table.kind place.serial typed below }
 
   -- an object that is created
-  fresh_object : IsFresh (create_step objects name object)
+  fresh_object : IsFresh (create_step objects (Some name) object)
   fresh_object =
       cond_both (is_name_taken objects.table (Some name)) _ _ (λ (r : Result Reserved ReserveFault × TableState T). IsFresh (created objects object r.0 r.1))
       (λ t. λ good. absurd (false≢true good))

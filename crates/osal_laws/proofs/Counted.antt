@@ -13,7 +13,7 @@ use Rattle.osal_machine.specs.Parts.{PartState}
 use Rattle.osal_machine.specs.Step.{MachineState, opening, part_in}
 use Rattle.osal_machine.specs.History.{replay_from}
 use Rattle.osal_laws.specs.Laws.{AreCounted, ObjectsAreCounted, TablesAreWellFormed}
-use Rattle.osal_laws.proofs.PartMoves.{EachMoves, tasks_in, tasks_move, queues_in, queues_move, count_sems_in, count_sems_move, bin_sems_in, bin_sems_move, mutexes_in, mutexes_move, condvars_in, condvars_move, timebases_in, timebases_move, timers_in, timers_move}
+use Rattle.osal_laws.proofs.PartMoves.{EachMoves, tasks_in, tasks_move, queues_in, queues_move, count_sems_in, count_sems_move, bin_sems_in, bin_sems_move, mutexes_in, mutexes_move, condvars_in, condvars_move, timebases_in, timebases_move, timers_in, timers_move, streams_in, streams_move, systems_in, systems_move, directories_in, directories_move}
 use Rattle.osal_laws.proofs.Replays.{replay_moves}
 
 -- each move that may be made keeps it
@@ -64,6 +64,9 @@ counted_from start entries counted = record {
   condvars = counted_in start entries condvars_in condvars_move 5 counted.condvars;
   timebases = counted_in start entries timebases_in timebases_move 6 counted.timebases;
   timers = counted_in start entries timers_in timers_move 6 counted.timers;
+  streams = counted_in start entries streams_in streams_move 7 counted.streams;
+  systems = counted_in start entries systems_in systems_move 7 counted.systems;
+  directories = counted_in start entries directories_in directories_move 7 counted.directories;
 }
 
 -- the holds of an object are those of callers and the open waits that stand on it
@@ -78,6 +81,9 @@ objects_counted limits entries fits =
       condvars = (holds_are_counted _ _).0 _ _ _ fits.tasks;
       timebases = (holds_are_counted _ _).0 _ _ _ fits.tasks;
       timers = (holds_are_counted _ _).0 _ _ _ fits.tasks;
+      streams = (holds_are_counted _ _).0 _ _ _ fits.tasks;
+      systems = (holds_are_counted _ _).0 _ _ _ fits.tasks;
+      directories = (holds_are_counted _ _).0 _ _ _ fits.tasks;
     })
 
 -- the tables are well formed
@@ -91,4 +97,7 @@ tables_well_formed limits entries fits = record {
   condvars = well_formed_in (opening limits) entries condvars_in condvars_move 5 ((stays_well_formed _).0 _ _ fits.condvars);
   timebases = well_formed_in (opening limits) entries timebases_in timebases_move 6 ((stays_well_formed _).0 _ _ fits.timebases);
   timers = well_formed_in (opening limits) entries timers_in timers_move 6 ((stays_well_formed _).0 _ _ fits.timers);
+  streams = well_formed_in (opening limits) entries streams_in streams_move 7 ((stays_well_formed _).0 _ _ fits.streams);
+  systems = well_formed_in (opening limits) entries systems_in systems_move 7 ((stays_well_formed _).0 _ _ fits.file_systems);
+  directories = well_formed_in (opening limits) entries directories_in directories_move 7 ((stays_well_formed _).0 _ _ fits.dirs);
 }

@@ -14,7 +14,6 @@ use Rattle.osal_object.specs.Across.{across}
 use Rattle.osal_object.specs.ObjectLaws.{IsCounted, holds_of}
 use Rattle.osal_object.proofs.Balance.{AreBalanced}
 use Rattle.osal_object.proofs.Carried.{of_found}
-use Rattle.osal_object.proofs.HeldEach.{there}
 use Rattle.osal_object.proofs.Moves.{either, is_there}
 use Rattle.osal_task.specs.declared.part.Task.{Task}
 use Rattle.osal_task.specs.Tasks.{TaskState, task_at}
@@ -24,6 +23,9 @@ use Rattle.osal_sem.specs.Binary.{BinSemState}
 use Rattle.osal_mutex.specs.Mutexes.{MutexState}
 use Rattle.osal_condvar.specs.Condvars.{CondvarState}
 use Rattle.osal_time.specs.Time.{TimeState, TimeCall, OnTimebases, OnTimers, OnBoth, Advance, is_timer, done}
+use Rattle.osal_file.specs.Held.{is_of_directory}
+use Rattle.osal_io.specs.Io.{is_of_stream}
+use Rattle.osal_io.specs.Calls.{io_step}
 use Rattle.osal_call.specs.declared.call.Call.{Call}
 use Rattle.osal_call.specs.declared.call.Call.TheVariants as call
 use Rattle.osal_call.specs.declared.call.Entry.{Entry}
@@ -52,9 +54,10 @@ use Rattle.osal_laws.proofs.BinSemKnown.{bin_sems_known}
 use Rattle.osal_laws.proofs.MutexKnown.{mutexes_known}
 use Rattle.osal_laws.proofs.CondvarKnown.{condvars_known}
 use Rattle.osal_laws.proofs.TimeKnown.{SuitsCall, fits}
+use Rattle.osal_laws.proofs.IoShifts.{io_shifts, io_told}
 use Rattle.osal_laws.proofs.Quiet.{same_balanced, written_balanced, quiet_balanced}
 use Rattle.osal_laws.proofs.Suits.{is_holding}
-use Rattle.osal_laws.proofs.Shifts.{counts, Shifts, ShiftsBy, of_holding, still, quiet_shifts, refused_hold, hold_shifts, release_shifts, known_shifts}
+use Rattle.osal_laws.proofs.Shifts.{counts, ShiftsBy, told_by, of_holding, differ, differ_too, quiet_shifts, others_hold, others_release, refused_hold, hold_shifts, release_shifts, known_shifts}
 
 -- the holds of an identifier of a part beside the waits on it rise by some and fall by others, where it is active
 abbrev ShiftsIn : ℕ → ℕ → ℕ → PartState → PartState → Type 0
@@ -65,19 +68,6 @@ ShiftsIn q more less old new =
 abbrev ShiftsPart : ℕ → Call → PartState → Replied × PartState → Type 0
 ShiftsPart q made old stepped =
     ShiftsIn q (counts (is_hold_of q made) stepped.0.answer) (counts (is_release_of q made) stepped.0.answer) old stepped.1
-
--- the same of one table
-told : {T W : Type 0} (q more less : ℕ) (old new : ObjectsState T W) → Shifts q more less old new → is_there old q ≡ true → is_there new q ≡ true → holds_of (active_at new.table q) + waits_on old.waits q + less ≡ holds_of (active_at old.table q) + waits_on new.waits q + more
-told q more less old new shifts was now =
-    let before = there (active_at old.table q) was in
-    let after = there (active_at new.table q) now in
-    let both = shifts before.0 after.0 before.1 after.1 in
-    let old_holds = ap holds_of before.1 in
-    let new_holds = ap holds_of after.1 in
-    omega arith
-
-told_by : {T W : Type 0} (q : ℕ) (made : Call) (old : ObjectsState T W) (stepped : Replied × ObjectsState T W) → ShiftsBy q made old stepped → is_there old q ≡ true → is_there stepped.1 q ≡ true → holds_of (active_at stepped.1.table q) + waits_on old.waits q + counts (is_release_of q made) stepped.0.answer ≡ holds_of (active_at old.table q) + waits_on stepped.1.waits q + counts (is_hold_of q made) stepped.0.answer
-told_by q made old stepped = told q (counts (is_hold_of q made) stepped.0.answer) (counts (is_release_of q made) stepped.0.answer) old stepped.1
 
 module _ (tasks : TaskState) (q : ℕ) (task : ℕ) (now : Moment) where
   task_hold : (id : ℕ) → ShiftsBy q (call.Hold id) tasks.objects (carried_out tasks.objects task now (task_call task (call.Hold id)))
@@ -117,30 +107,15 @@ module _ (time : TimeState) (bases : IsCounted time.timebases) (timers : IsCount
         timebase = λ other. quiet_shifts q made time.timebases (stepped.0, stepped.1.timebases) none both.0;
       }
 
-  -- an identifier of a timer is none of a timebase
-  differ : (id : ℕ) → is_timer id ≡ true → is_timer q ≡ false → id ≡ q → ⊥
-  differ id own other same = both_ways (is_timer q) other (ap is_timer (sym same) ∙ own)
-
-  differ_too : (id : ℕ) → is_timer id ≡ false → is_timer q ≡ true → id ≡ q → ⊥
-  differ_too id other own same = both_ways (is_timer q) (ap is_timer (sym same) ∙ other) own
-
-  others_hold : {T W : Type 0} (objects : ObjectsState T W) (id : ℕ) (reply : Replied) → (id ≡ q → ⊥) → ShiftsBy q (call.Hold id) objects (reply, objects)
-  others_hold objects id reply ne =
-      still q objects objects _ _ (ap (λ b. counts b reply.answer) (apart id q ne)) refl (same_balanced objects)
-
-  others_release : {T W : Type 0} (objects : ObjectsState T W) (id : ℕ) (reply : Replied) → (id ≡ q → ⊥) → ShiftsBy q (call.Release id) objects (reply, objects)
-  others_release objects id reply ne =
-      still q objects objects _ _ refl (ap (λ b. counts b reply.answer) (apart id q ne)) (same_balanced objects)
-
   time_hold : (id : ℕ) → ShiftsTime (call.Hold id) (time_step time task now (call.Hold id))
   time_hold id =
       cond_both (is_timer id) (OnTimers (Hold id)) (OnTimebases (Hold id)) (λ made. ShiftsTime (call.Hold id) (done time task now made))
       (λ own. record {
         timer = λ also. hold_shifts time.timers q id;
-        timebase = λ other. others_hold time.timebases id (hold_call_step time.timers id).0 (differ id own other);
+        timebase = λ other. others_hold q time.timebases id (hold_call_step time.timers id).0 (differ is_timer id q own other);
       })
       (λ other. record {
-        timer = λ own. others_hold time.timers id (hold_call_step time.timebases id).0 (differ_too id other own);
+        timer = λ own. others_hold q time.timers id (hold_call_step time.timebases id).0 (differ_too is_timer id q other own);
         timebase = λ also. hold_shifts time.timebases q id;
       })
 
@@ -149,10 +124,10 @@ module _ (time : TimeState) (bases : IsCounted time.timebases) (timers : IsCount
       cond_both (is_timer id) (OnTimers (Release id)) (OnTimebases (Release id)) (λ made. ShiftsTime (call.Release id) (done time task now made))
       (λ own. record {
         timer = λ also. release_shifts time.timers q id;
-        timebase = λ other. others_release time.timebases id (release_call_step time.timers id).0 (differ id own other);
+        timebase = λ other. others_release q time.timebases id (release_call_step time.timers id).0 (differ is_timer id q own other);
       })
       (λ other. record {
-        timer = λ own. others_release time.timers id (release_call_step time.timebases id).0 (differ_too id other own);
+        timer = λ own. others_release q time.timers id (release_call_step time.timebases id).0 (differ_too is_timer id q other own);
         timebase = λ also. release_shifts time.timebases q id;
       })
 
@@ -174,6 +149,7 @@ module _ (state : MachineState) (counted : AreCounted state) (task : ℕ) (now :
       (told_by q made state.mutexes.objects (seen_as (λ (s : MutexState). s.objects) (mutex_step state.mutexes task now made)) (known_shifts mutexes_known state.mutexes task now counted.mutexes q (hold_shifts state.mutexes.objects q) (release_shifts state.mutexes.objects q) made))
       (told_by q made state.condvars.objects (seen_as (λ (s : CondvarState). s.objects) (condvar_step state.condvars task now made)) (known_shifts condvars_known state.condvars task now counted.condvars q (hold_shifts state.condvars.objects q) (release_shifts state.condvars.objects q) made))
       (let shifts = time_shifts state.time counted.timebases counted.timers task now q made in time_told state.time counted.timebases counted.timers task now q (is_timer q) made (time_step state.time task now made) shifts.timer shifts.timebase)
+      (let shifts = io_shifts state.io task now q made in io_told q state.io (is_of_stream q) (is_of_directory q) made (io_step state.io task now made) shifts.stream shifts.directory shifts.system)
       (λ n was. absurd (both_ways false refl was))
 
   not_hold : (other : Call) → (part_of_id q ≡ part_of other → ⊥) → is_hold_of q other ≡ false

@@ -10,6 +10,8 @@ use Rattle.osal_idtable.specs.Table.{TableState, active_at}
 use Rattle.osal_idtable.specs.WellFormed.{IsWellFormed, known_as}
 use Rattle.osal_object.proofs.HeldEach.{there}
 use Rattle.osal_time.specs.Time.{is_timer}
+use Rattle.osal_file.specs.Held.{is_of_directory}
+use Rattle.osal_io.specs.Io.{is_of_stream}
 use Rattle.osal_call.specs.declared.call.Entry.{Entry}
 use Rattle.osal_call.specs.Signature.{Subject, Table, signature, part_of_type, id_of}
 use Rattle.osal_call.specs.Signature as what
@@ -18,7 +20,7 @@ use Rattle.osal_machine.specs.Step.{MachineState, opening, part_in, is_active}
 use Rattle.osal_machine.specs.History.{replay}
 use Rattle.osal_laws.specs.Laws.{InactiveIdentifiersAreRefused, AreWellFormed, is_active_among, is_there}
 use Rattle.osal_laws.proofs.Counted.{kind_kept, tables_well_formed}
-use Rattle.osal_laws.proofs.PartMoves.{tasks_in, tasks_move, queues_in, queues_move, count_sems_in, count_sems_move, bin_sems_in, bin_sems_move, mutexes_in, mutexes_move, condvars_in, condvars_move, timebases_in, timebases_move, timers_in, timers_move}
+use Rattle.osal_laws.proofs.PartMoves.{tasks_in, tasks_move, queues_in, queues_move, count_sems_in, count_sems_move, bin_sems_in, bin_sems_move, mutexes_in, mutexes_move, condvars_in, condvars_move, timebases_in, timebases_move, timers_in, timers_move, streams_in, streams_move, directories_in, directories_move}
 use Rattle.osal_laws.proofs.Stale.{stale_refused}
 
 -- an active identifier has the type of its table
@@ -61,6 +63,15 @@ module _ (limits : Limits) (entries : List Entry) (fits : Fits limits) where
       let is = typed state.time.timers.table (type_number kind.Timer) id tables.timers (kind_kept (opening limits) entries timers_in timers_move 6) some in
       let own : is_timer id ≡ true = ap (λ n. n == type_number kind.Timer) is in
       active_there (type_number kind.Timer) id is (rw own some)
+  among_active what.Streams id some =
+      let is = typed state.io.streams.table (type_number kind.Stream) id tables.streams (kind_kept (opening limits) entries streams_in streams_move 7) some in
+      let own : is_of_stream id ≡ true = ap (λ n. n == type_number kind.Stream) is in
+      active_there (type_number kind.Stream) id is (rw own some)
+  among_active what.Directories id some =
+      let is = typed state.io.files.directories.table (type_number kind.Directory) id tables.directories (kind_kept (opening limits) entries directories_in directories_move 7) some in
+      let other : is_of_stream id ≡ false = ap (λ n. n == type_number kind.Stream) is in
+      let own : is_of_directory id ≡ true = ap (λ n. n == type_number kind.Directory) is in
+      active_there (type_number kind.Directory) id is (rw other (rw own some))
   among_active what.OfType id some = some
 
   -- an identifier that is not active is in no table

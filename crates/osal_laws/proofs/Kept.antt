@@ -6,13 +6,13 @@ use Rattle.osal_base.specs.declared.reply.Answer.{Answer}
 use Rattle.osal_base.specs.declared.reply.Answer.TheVariants as answer
 use Rattle.osal_base.specs.declared.status.Status.TheVariants as status
 use Rattle.osal_base.specs.declared.time.Moment.{Moment}
-use Rattle.osal_base.specs.Reply.{refusal, is_waits}
+use Rattle.osal_base.specs.Reply.{Replied, refusal, is_waits}
 use Rattle.osal_task.specs.Tasks.{TaskState}
 use Rattle.osal_call.specs.declared.call.Call.{Call}
 use Rattle.osal_call.specs.declared.call.Call.TheVariants as call
 use Rattle.osal_call.specs.Signature.{part_of, is_wait_end}
-use Rattle.osal_machine.specs.Parts.{PartState, Tasks, Queues, CountSems, BinSems, Mutexes, Condvars, Time, Absent, as_part, part_step}
-use Rattle.osal_machine.specs.Step.{MachineState, part_in, with_part, in_machine, step}
+use Rattle.osal_machine.specs.Parts.{PartState, Tasks, Queues, CountSems, BinSems, Mutexes, Condvars, Time, Io, Absent, as_part, part_step}
+use Rattle.osal_machine.specs.Step.{MachineState, part_in, with_part, in_machine}
 use Rattle.osal_machine.specs.OpenWaits.{has_wait}
 use Rattle.osal_laws.specs.Laws.{RefusedCallsChangeNothing, EndsThatWaitChangeNothing, EndsOfNoWaitChangeNothing, is_below_zero}
 use Rattle.osal_base.specs.Reply.{is_refusal}
@@ -26,17 +26,31 @@ use Rattle.osal_laws.proofs.BinSemKnown.{bin_sems_known}
 use Rattle.osal_laws.proofs.MutexKnown.{mutexes_known}
 use Rattle.osal_laws.proofs.CondvarKnown.{condvars_known}
 use Rattle.osal_laws.proofs.TimeKnown.{time_keeps}
+use Rattle.osal_io.proofs.Known.{io_keeps}
+
+-- a code below 0 is one other than success
+below_refused : (given : Answer) → is_below_zero given ≡ true → is_refusal given ≡ true
+below_refused (answer.Code (pos n)) below = absurd (both_ways (is_below_zero (answer.Code (pos n))) (le-ltb n 0 (omega arith)) below)
+below_refused (answer.Code (negsuc n)) below = refl
+below_refused answer.Waits below = below
+below_refused answer.Go below = below
+below_refused answer.Deleted below = below
+
+-- a step that leaves what it found where it is refused leaves it where it answers a code below 0
+where_below : {S : Type 0} {old : S} {stepped : Replied × S} → Leaves is_refusal old stepped → Leaves is_below_zero old stepped
+where_below {stepped = stepped} leaves = record { left = λ below. leaves.left (below_refused stepped.0.answer below) }
 
 module _ (task : ℕ) (now : Moment) where
-  -- a refused call leaves its part
-  part_keeps : (made : Call) → is_wait_end made ≡ false → (part : PartState) → Leaves is_refusal part (part_step part task now made)
-  part_keeps made other (Tasks tasks) = within (λ s. Tasks s) (known_keeps tasks_known tasks task now made other)
-  part_keeps made other (Queues queues) = within (λ s. Queues s) (known_keeps queues_known queues task now made other)
-  part_keeps made other (CountSems sems) = within (λ s. CountSems s) (known_keeps count_sems_known sems task now made other)
-  part_keeps made other (BinSems sems) = within (λ s. BinSems s) (known_keeps bin_sems_known sems task now made other)
-  part_keeps made other (Mutexes mutexes) = within (λ s. Mutexes s) (known_keeps mutexes_known mutexes task now made other)
-  part_keeps made other (Condvars condvars) = within (λ s. Condvars s) (known_keeps condvars_known condvars task now made other)
-  part_keeps made other (Time time) = within (λ s. Time s) (time_keeps time task now made)
+  -- a call that answers a code below 0 leaves its part
+  part_keeps : (made : Call) → is_wait_end made ≡ false → (part : PartState) → Leaves is_below_zero part (part_step part task now made)
+  part_keeps made other (Tasks tasks) = within (λ s. Tasks s) (where_below (known_keeps tasks_known tasks task now made other))
+  part_keeps made other (Queues queues) = within (λ s. Queues s) (where_below (known_keeps queues_known queues task now made other))
+  part_keeps made other (CountSems sems) = within (λ s. CountSems s) (where_below (known_keeps count_sems_known sems task now made other))
+  part_keeps made other (BinSems sems) = within (λ s. BinSems s) (where_below (known_keeps bin_sems_known sems task now made other))
+  part_keeps made other (Mutexes mutexes) = within (λ s. Mutexes s) (where_below (known_keeps mutexes_known mutexes task now made other))
+  part_keeps made other (Condvars condvars) = within (λ s. Condvars s) (where_below (known_keeps condvars_known condvars task now made other))
+  part_keeps made other (Time time) = within (λ s. Time s) (where_below (time_keeps time task now made))
+  part_keeps made other (Io io) = within (λ s. Io s) (io_keeps io task now made)
   part_keeps made other Absent = same
 
   -- the end of a wait that waits on leaves its part
@@ -48,6 +62,7 @@ module _ (task : ℕ) (now : Moment) where
   part_stays made (Mutexes mutexes) = within (λ s. Mutexes s) (known_stays mutexes_known mutexes task now made)
   part_stays made (Condvars condvars) = within (λ s. Condvars s) (known_stays condvars_known condvars task now made)
   part_stays made (Time time) = same
+  part_stays made (Io io) = same
   part_stays made Absent = same
 
   -- the end of a wait in a part where the task has none is refused, and leaves the part
@@ -59,6 +74,7 @@ module _ (task : ℕ) (now : Moment) where
   part_refuses made (Mutexes mutexes) none = ap (as_part (λ s. Mutexes s)) (known_refuses mutexes_known mutexes task now made none)
   part_refuses made (Condvars condvars) none = ap (as_part (λ s. Condvars s)) (known_refuses condvars_known condvars task now made none)
   part_refuses made (Time time) none = refl
+  part_refuses made (Io io) none = refl
   part_refuses made Absent none = refl
 
   -- the task part refuses the end of a wait in a part that is not there
@@ -68,21 +84,13 @@ module _ (task : ℕ) (now : Moment) where
 
 -- the machine with a part that it has is the machine
 own_part : (state : MachineState) (number : ℕ) → with_part state (part_in number state) ≡ state
-own_part state = by_number (λ n part. with_part state part ≡ state) state refl refl refl refl refl refl refl (λ n. refl)
-
--- a code below 0 is one other than success
-below_refused : (given : Answer) → is_below_zero given ≡ true → is_refusal given ≡ true
-below_refused (answer.Code (pos n)) below = absurd (both_ways (is_below_zero (answer.Code (pos n))) (le-ltb n 0 (omega arith)) below)
-below_refused (answer.Code (negsuc n)) below = refl
-below_refused answer.Waits below = below
-below_refused answer.Go below = below
-below_refused answer.Deleted below = below
+own_part state = by_number (λ n part. with_part state part ≡ state) state refl refl refl refl refl refl refl refl (λ n. refl)
 
 -- a refused call changes nothing
 pub refused_kept : RefusedCallsChangeNothing
 refused_kept state task now made other below =
     ap (with_part state)
-    ((part_keeps task now made other (part_in (part_of made) state)).left (below_refused (step state task now made).0.answer below)) ∙ own_part state (part_of made)
+    ((part_keeps task now made other (part_in (part_of made) state)).left below) ∙ own_part state (part_of made)
 
 -- the end of a wait that waits on changes nothing
 pub waiting_kept : EndsThatWaitChangeNothing

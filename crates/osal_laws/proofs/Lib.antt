@@ -34,4 +34,5 @@ pub mod Inactive
 pub mod Quiet
 pub mod Shifts
 pub mod NewObjects
+pub mod IoShifts
 pub mod HoldsMade

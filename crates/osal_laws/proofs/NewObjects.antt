@@ -15,6 +15,8 @@ use Rattle.osal_object.proofs.Activity.{changes_alike, reserve_active, settle_el
 use Rattle.osal_object.proofs.HeldEach.{there, one_there}
 use Rattle.osal_object.proofs.Moves.{IsMove, is_there}
 use Rattle.osal_time.specs.Time.{is_timer}
+use Rattle.osal_file.specs.Held.{is_of_directory}
+use Rattle.osal_io.specs.Io.{is_of_stream}
 use Rattle.osal_call.specs.declared.call.Entry.{Entry}
 use Rattle.osal_machine.specs.Parts.{is_active_in}
 use Rattle.osal_machine.specs.Step.{MachineState, part_in}
@@ -22,7 +24,7 @@ use Rattle.osal_machine.specs.History.{after_entry}
 use Rattle.osal_laws.specs.Laws.{AreCounted, holds_in}
 use Rattle.osal_laws.specs.Holds.{waits_in}
 use Rattle.osal_laws.proofs.Own.{by_number}
-use Rattle.osal_laws.proofs.PartMoves.{tasks_in, tasks_move, queues_in, queues_move, count_sems_in, count_sems_move, bin_sems_in, bin_sems_move, mutexes_in, mutexes_move, condvars_in, condvars_move, timebases_in, timebases_move, timers_in, timers_move}
+use Rattle.osal_laws.proofs.PartMoves.{tasks_in, tasks_move, queues_in, queues_move, count_sems_in, count_sems_move, bin_sems_in, bin_sems_move, mutexes_in, mutexes_move, condvars_in, condvars_move, timebases_in, timebases_move, timers_in, timers_move, streams_in, streams_move, systems_in, systems_move, directories_in, directories_move}
 use Rattle.osal_laws.proofs.Replays.{entry_moves}
 
 settled_new : {T : Type 0} (table : TableState T) (id : ℕ) (o : Option (Option (List ℕ))) (object : T) (b : Active T) → is_some (active_at table id) ≡ false → active_at (settle table id o (Some object)) id ≡ Some b → b.holds ≡ 0
@@ -32,11 +34,11 @@ settled_new table id (Some name) object b none now =
     ap (λ (x : Active _). x.holds) (one_there (active_at (settle table id (Some name) (Some object)) id) b new now (put_here table.active id new))
 
 module _ {T W : Type 0} (objects : ObjectsState T W) (q : ℕ) (none : is_there objects q ≡ false) (b : Active T) where
-  created_new : (name : List ℕ) (object : T) (r : Result Reserved ReserveFault) → active_at (created objects object r (reserve_step objects.table (Some name)).1).1.table q ≡ Some b → b.holds ≡ 0
+  created_new : (name : Option (List ℕ)) (object : T) (r : Result Reserved ReserveFault) → active_at (created objects object r (reserve_step objects.table name).1).1.table q ≡ Some b → b.holds ≡ 0
   created_new name object (Err fault) now = absurd (both_ways _ none (ap is_some now))
   created_new name object (Ok reserved) now =
-      let table = (reserve_step objects.table (Some name)).1 in
-      let same_map = reserve_active objects.table (Some name) in
+      let table = (reserve_step objects.table name).1 in
+      let same_map = reserve_active objects.table name in
       elim (cases_eq q reserved.id) [
         | inl same ↦
             settled_new table reserved.id (map.get table.reserved reserved.id) object b
@@ -59,7 +61,7 @@ module _ {T W : Type 0} (objects : ObjectsState T W) (q : ℕ) (none : is_there 
       ]
 
   moved_new : (move : Move T W) → active_at (moved objects move).table q ≡ Some b → b.holds ≡ 0
-  moved_new (Create name object) now = created_new name object (reserve_step objects.table (Some name)).0 now
+  moved_new (Create name object) now = created_new name object (reserve_step objects.table name).0 now
   moved_new (Remove id) now = taken_new id (unheld (active_at objects.table id)) now
   moved_new (Changes changes) now =
       absurd (both_ways (is_there objects q) none (sym (changes_alike objects changes q) ∙ ap is_some now))
@@ -92,4 +94,9 @@ module _ (state : MachineState) (entry : Entry) (counted : AreCounted (after_ent
       (either_new (is_timer q)
       (move_new q state.time.timers _ (entry_moves timers_in timers_move 6 state entry) counted.timers)
       (move_new q state.time.timebases _ (entry_moves timebases_in timebases_move 6 state entry) counted.timebases))
+      (either_new (is_of_stream q)
+      (move_new q state.io.streams _ (entry_moves streams_in streams_move 7 state entry) counted.streams)
+      (either_new (is_of_directory q)
+      (move_new q state.io.files.directories _ (entry_moves directories_in directories_move 7 state entry) counted.directories)
+      (move_new q state.io.files.systems _ (entry_moves systems_in systems_move 7 state entry) counted.systems)))
       (λ n was now. absurd (both_ways false refl now))

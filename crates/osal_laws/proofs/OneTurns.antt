@@ -1,5 +1,5 @@
 -- A step makes at most one identifier active or not active: one move of a table does, and no call makes two such moves.
-use Rattle.std.proofs.Common.{◌≡◌, ℕ, Bool, true, false, cond, map as map_list, Some, is_some, Result, Ok, Err, nat_lt, inl, inr, refl, sym, ap, subst, ◌∙◌}
+use Rattle.std.proofs.Common.{◌≡◌, ℕ, Bool, true, false, cond, map as map_list, is_some, Result, Ok, Err, nat_lt, inl, inr, refl, sym, ap, subst, ◌∙◌, Option, List}
 use Rattle.std.specs.FinMap as map
 use Rattle.std.proofs.lemmas.Bool.{cases_eq}
 use Rattle.osal_base.specs.declared.time.Moment.{Moment}
@@ -18,9 +18,11 @@ use Rattle.osal_object.proofs.Moves.{IsMove, either, is_there}
 use Rattle.osal_object.proofs.Carried.{outcome_moves}
 use Rattle.osal_base.specs.declared.time.Timeout.TheVariants as timeout
 use Rattle.osal_time.specs.Time.{TimeState, TimeCall, OnTimebases, OnTimers, OnBoth, Advance, is_timer, is_active as is_active_time, done}
+use Rattle.osal_file.specs.Held.{is_of_directory}
+use Rattle.osal_io.specs.Io.{is_of_stream}
 use Rattle.osal_call.specs.declared.call.Call.{Call}
 use Rattle.osal_call.specs.Call.{part_of, part_of_id}
-use Rattle.osal_machine.specs.Parts.{PartState, Tasks, Queues, CountSems, BinSems, Mutexes, Condvars, Time, Absent, part_step, is_active_in}
+use Rattle.osal_machine.specs.Parts.{PartState, Tasks, Queues, CountSems, BinSems, Mutexes, Condvars, Time, Io, Absent, part_step, is_active_in}
 use Rattle.osal_time.specs.Calls.{time_call}
 use Rattle.osal_machine.specs.Step.{MachineState, part_in, step}
 use Rattle.osal_laws.specs.Steps.{Turns, StepsTurnOne}
@@ -34,6 +36,7 @@ use Rattle.osal_laws.proofs.MutexKnown.{mutexes_known}
 use Rattle.osal_laws.proofs.CondvarKnown.{condvars_known}
 use Rattle.osal_laws.proofs.TimeKnown.{SuitsCall, fits}
 use Rattle.osal_laws.proofs.Suits.{is_holding, suits_fit}
+use Rattle.osal_io.proofs.Known.{io_one}
 
 -- what is active is what was, but for one identifier
 abbrev AllButOne : (ℕ → Bool) → (ℕ → Bool) → Type 0
@@ -44,17 +47,17 @@ taken_one table id (Err fault) = (id, λ q ne. refl)
 taken_one table id (Ok object) = (id, λ q ne. ap is_some (gone_there table.active id q ne))
 
 module _ {T W : Type 0} where
-  created_one : (objects : ObjectsState T W) (name : _) (object : T) (r : Result Reserved ReserveFault) → AllButOne (is_there objects) (is_there (created objects object r (reserve_step objects.table (Some name)).1).1)
+  created_one : (objects : ObjectsState T W) (name : Option (List ℕ)) (object : T) (r : Result Reserved ReserveFault) → AllButOne (is_there objects) (is_there (created objects object r (reserve_step objects.table name).1).1)
   created_one objects name object (Err fault) = (0, λ q ne. refl)
   created_one objects name object (Ok reserved) = (
     reserved.id,
     λ q ne.
-        ap is_some (settle_elsewhere (reserve_step objects.table (Some name)).1 reserved.id (map.get (reserve_step objects.table (Some name)).1.reserved reserved.id) object q ne)
-        ∙ ap (λ m. is_some (map.get m q)) (reserve_active objects.table (Some name)),
+        ap is_some (settle_elsewhere (reserve_step objects.table name).1 reserved.id (map.get (reserve_step objects.table name).1.reserved reserved.id) object q ne)
+        ∙ ap (λ m. is_some (map.get m q)) (reserve_active objects.table name),
   )
 
   moved_one : (objects : ObjectsState T W) (move : Move T W) → AllButOne (is_there objects) (is_there (moved objects move))
-  moved_one objects (Create name object) = created_one objects name object (reserve_step objects.table (Some name)).0
+  moved_one objects (Create name object) = created_one objects name object (reserve_step objects.table name).0
   moved_one objects (Remove id) = taken_one objects.table id (unheld (active_at objects.table id))
   moved_one objects (Changes changes) = (0, λ q ne. changes_alike objects changes q)
 
@@ -96,6 +99,9 @@ part_one (BinSems sems) task now made = move_one (known_moves bin_sems_known sem
 part_one (Mutexes mutexes) task now made = move_one (known_moves mutexes_known mutexes task now made)
 part_one (Condvars condvars) task now made = move_one (known_moves condvars_known condvars task now made)
 part_one (Time time) task now made = time_one time task now (is_holding made) (time_call time made) (fits time task now made)
+part_one (Io io) task now made =
+    let one = io_one io task now made in
+    (one.0, λ q ne. let kept = one.1 q ne in same_choice (is_of_stream q) kept.0 (same_choice (is_of_directory q) kept.1.1 kept.1.0))
 part_one Absent task now made = (0, λ q ne. refl)
 
 module _ (state : MachineState) (task : ℕ) (now : Moment) (made : Call) where

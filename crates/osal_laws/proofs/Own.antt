@@ -7,45 +7,47 @@ use Rattle.osal_task.specs.Tasks.{TaskState}
 use Rattle.osal_time.specs.Time.{TimeState}
 use Rattle.osal_call.specs.declared.call.Call.{Call}
 use Rattle.osal_call.specs.Call.{part_of}
-use Rattle.osal_machine.specs.Parts.{PartState, Tasks, Queues, CountSems, BinSems, Mutexes, Condvars, Time, Absent, part_step}
+use Rattle.osal_machine.specs.Parts.{PartState, Tasks, Queues, CountSems, BinSems, Mutexes, Condvars, Time, Io, Absent, part_step}
 use Rattle.osal_task.specs.Calls.{task_step}
 use Rattle.osal_time.specs.Calls.{time_step}
 use Rattle.osal_machine.specs.Step.{MachineState, part_in, with_part, step}
 use Rattle.osal_laws.specs.Laws.{CallsChangeTheirPart}
 
--- the part that seven tests choose, one for each part that is built
-abbrev chosen : Bool → Bool → Bool → Bool → Bool → Bool → Bool → MachineState → PartState
-chosen tasks queues count_sems bin_sems mutexes condvars time state =
+-- the part that eight tests choose, one for each part that is built
+abbrev chosen : Bool → Bool → Bool → Bool → Bool → Bool → Bool → Bool → MachineState → PartState
+chosen tasks queues count_sems bin_sems mutexes condvars time io state =
     cond tasks (Tasks state.tasks)
     (cond queues (Queues state.queues)
     (cond count_sems (CountSems state.count_sems)
     (cond bin_sems (BinSems state.bin_sems)
     (cond mutexes (Mutexes state.mutexes)
     (cond condvars (Condvars state.condvars)
-    (cond time (Time state.time) Absent))))))
+    (cond time (Time state.time)
+    (cond io (Io state.io) Absent)))))))
 
-own_chosen : (a b c d e f g : Bool) (state : MachineState) (task : ℕ) (now : Moment) (made : Call) → chosen a b c d e f g (with_part state (part_step (chosen a b c d e f g state) task now made).1) ≡ (part_step (chosen a b c d e f g state) task now made).1
-own_chosen true b c d e f g state task now made = refl
-own_chosen false true c d e f g state task now made = refl
-own_chosen false false true d e f g state task now made = refl
-own_chosen false false false true e f g state task now made = refl
-own_chosen false false false false true f g state task now made = refl
-own_chosen false false false false false true g state task now made = refl
-own_chosen false false false false false false true state task now made = refl
-own_chosen false false false false false false false state task now made = refl
+own_chosen : (a b c d e f g h : Bool) (state : MachineState) (task : ℕ) (now : Moment) (made : Call) → chosen a b c d e f g h (with_part state (part_step (chosen a b c d e f g h state) task now made).1) ≡ (part_step (chosen a b c d e f g h state) task now made).1
+own_chosen true b c d e f g h state task now made = refl
+own_chosen false true c d e f g h state task now made = refl
+own_chosen false false true d e f g h state task now made = refl
+own_chosen false false false true e f g h state task now made = refl
+own_chosen false false false false true f g h state task now made = refl
+own_chosen false false false false false true g h state task now made = refl
+own_chosen false false false false false false true h state task now made = refl
+own_chosen false false false false false false false true state task now made = refl
+own_chosen false false false false false false false false state task now made = refl
 
 -- a call makes a step of its part
 pub own_step : (state : MachineState) (task : ℕ) (now : Moment) (made : Call) → part_in (part_of made) (step state task now made).1 ≡ (part_step (part_in (part_of made) state) task now made).1
 own_step state task now made =
-    own_chosen (nat_eq (part_of made) 0) (nat_eq (part_of made) 1) (nat_eq (part_of made) 2) (nat_eq (part_of made) 3) (nat_eq (part_of made) 4) (nat_eq (part_of made) 5) (nat_eq (part_of made) 6) state task now made
+    own_chosen (nat_eq (part_of made) 0) (nat_eq (part_of made) 1) (nat_eq (part_of made) 2) (nat_eq (part_of made) 3) (nat_eq (part_of made) 4) (nat_eq (part_of made) 5) (nat_eq (part_of made) 6) (nat_eq (part_of made) 7) state task now made
 
 -- a call changes its own part alone
 pub other_kept : CallsChangeTheirPart
 other_kept state task now made part other = grind (arith, nat_tests)
 
 -- what holds of each part under its number holds of the part of any number
-pub by_number : (P : ℕ → PartState → Type 0) (state : MachineState) → P 0 (Tasks state.tasks) → P 1 (Queues state.queues) → P 2 (CountSems state.count_sems) → P 3 (BinSems state.bin_sems) → P 4 (Mutexes state.mutexes) → P 5 (Condvars state.condvars) → P 6 (Time state.time) → ((n : ℕ) → P n Absent) → (part : ℕ) → P part (part_in part state)
-by_number P state tasks queues count_sems bin_sems mutexes condvars time none part =
+pub by_number : (P : ℕ → PartState → Type 0) (state : MachineState) → P 0 (Tasks state.tasks) → P 1 (Queues state.queues) → P 2 (CountSems state.count_sems) → P 3 (BinSems state.bin_sems) → P 4 (Mutexes state.mutexes) → P 5 (Condvars state.condvars) → P 6 (Time state.time) → P 7 (Io state.io) → ((n : ℕ) → P n Absent) → (part : ℕ) → P part (part_in part state)
+by_number P state tasks queues count_sems bin_sems mutexes condvars time io none part =
     cond_both (part == 0) _ _ (P part) (λ t. subst (λ n. P n (Tasks state.tasks)) (sym (eqb-true part 0 t)) tasks)
     (λ f. cond_both (part == 1) _ _ (P part) (λ t. subst (λ n. P n (Queues state.queues)) (sym (eqb-true part 1 t)) queues)
     (λ f. cond_both (part == 2) _ _ (P part) (λ t. subst (λ n. P n (CountSems state.count_sems)) (sym (eqb-true part 2 t)) count_sems)
@@ -53,7 +55,8 @@ by_number P state tasks queues count_sems bin_sems mutexes condvars time none pa
     (λ f. cond_both (part == 4) _ _ (P part) (λ t. subst (λ n. P n (Mutexes state.mutexes)) (sym (eqb-true part 4 t)) mutexes)
     (λ f. cond_both (part == 5) _ _ (P part) (λ t. subst (λ n. P n (Condvars state.condvars)) (sym (eqb-true part 5 t)) condvars)
     (λ f. cond_both (part == 6) _ _ (P part) (λ t. subst (λ n. P n (Time state.time)) (sym (eqb-true part 6 t)) time)
-    (λ f. none part)))))))
+    (λ f. cond_both (part == 7) _ _ (P part) (λ t. subst (λ n. P n (Io state.io)) (sym (eqb-true part 7 t)) io)
+    (λ f. none part))))))))
 
 -- the tasks of a part that has them
 abbrev tasks_in : TaskState → PartState → TaskState

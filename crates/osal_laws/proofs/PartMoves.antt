@@ -11,8 +11,10 @@ use Rattle.osal_condvar.specs.declared.condvar.Condvar.{Condvar}
 use Rattle.osal_condvar.specs.declared.condvar.CondvarWait.{CondvarWait}
 use Rattle.osal_time.specs.Timebase.{Timebase}
 use Rattle.osal_time.specs.declared.timer.Timer.{Timer}
+use Rattle.osal_file.specs.declared.system.FileSystem.{FileSystem}
+use Rattle.osal_io.specs.declared.part.Stream.{Stream}
 use Rattle.osal_call.specs.declared.call.Call.{Call}
-use Rattle.osal_machine.specs.Parts.{PartState, Tasks, Queues, CountSems, BinSems, Mutexes, Condvars, Time, part_step}
+use Rattle.osal_machine.specs.Parts.{PartState, Tasks, Queues, CountSems, BinSems, Mutexes, Condvars, Time, Io, part_step}
 use Rattle.osal_object.proofs.Moves.{IsMove, stays}
 use Rattle.osal_laws.proofs.QueueKnown.{queues_known}
 use Rattle.osal_laws.proofs.Known.{known_moves}
@@ -22,6 +24,7 @@ use Rattle.osal_laws.proofs.MutexKnown.{mutexes_known}
 use Rattle.osal_laws.proofs.BinSemKnown.{bin_sems_known}
 use Rattle.osal_laws.proofs.CondvarKnown.{condvars_known}
 use Rattle.osal_laws.proofs.TimeKnown.{time_moves}
+use Rattle.osal_io.proofs.Known.{io_moves}
 
 -- each call of a part makes one move of the objects of a kind
 abbrev pub EachMoves : {T W : Type 0} → (PartState → ObjectsState T W) → Type 0
@@ -112,3 +115,33 @@ timers_in _ = none
 pub timers_move : EachMoves timers_in
 timers_move (Time time) task now made = (time_moves time task now made).1
 timers_move _ task now made = stays none
+
+-- the streams of a part that has them
+abbrev pub streams_in : PartState → ObjectsState Stream (Unit {0})
+streams_in (Io io) = io.streams
+streams_in _ = none
+
+-- each call makes one move of them
+pub streams_move : EachMoves streams_in
+streams_move (Io io) task now made = (io_moves io task now made).0
+streams_move _ task now made = stays none
+
+-- the file systems of a part that has them
+abbrev pub systems_in : PartState → ObjectsState FileSystem (Unit {0})
+systems_in (Io io) = io.files.systems
+systems_in _ = none
+
+-- each call makes one move of them
+pub systems_move : EachMoves systems_in
+systems_move (Io io) task now made = (io_moves io task now made).1.0
+systems_move _ task now made = stays none
+
+-- the directories of a part that has them
+abbrev pub directories_in : PartState → ObjectsState (Unit {0}) (Unit {0})
+directories_in (Io io) = io.files.directories
+directories_in _ = none
+
+-- each call makes one move of them
+pub directories_move : EachMoves directories_in
+directories_move (Io io) task now made = (io_moves io task now made).1.1
+directories_move _ task now made = stays none

@@ -135,7 +135,7 @@ module _ (id : ℕ) where
         queue = queue;
         there =
             ap (object_at (in_queues (created queues.objects queue (Ok reserved) (reserve_step queues.objects.table (Some name)).1)).1.objects.table) (sym same)
-            ∙ created_here queues.objects name queue reserved is;
+            ∙ created_here queues.objects (Some name) queue reserved is;
         none = none;
       }
 

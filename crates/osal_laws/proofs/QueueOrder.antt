@@ -107,8 +107,8 @@ module _ (queues : QueueState) (id : ℕ) (old : Queue) (there : object_at queue
       let new = empty_queue depth size task in
       named_order task now (cond (may_be_sized depth size) (Make name new) (Refuse status.QueueInvalidSize)) (name_fault name)
       (either (λ (o : Outcome Queue ℕ). Orders [] false (done queues task now o)) (may_be_sized depth size) _ _
-      (untouched (in_queues (create_step queues.objects name new))
-      (create_keeps queues.objects name new (reserve_step queues.objects.table (Some name)).0 refl id (active_there (active_at queues.objects.table id) old there)))
+      (untouched (in_queues (create_step queues.objects (Some name) new))
+      (create_keeps queues.objects (Some name) new (reserve_step queues.objects.table (Some name)).0 refl id (active_there (active_at queues.objects.table id) old there)))
       (untouched _ refl))
 
   -- what is done with a queue that is there, or not

@@ -1,6 +1,6 @@
 -- How the holds of an object change in one call: by an accepted hold, by an accepted release, and with the waits on it.
-use Rattle.std.proofs.Common.{◌≡◌, ◌==◌, ◌&&◌, ◌<◌, ◌+◌, ◌-◌, ℕ, Bool, true, false, cond, Option, Some, None, nat_lt, refl, ap, ◌∙◌, inl, inr, arith, subst}
-use Rattle.std.proofs.lemmas.Bool.{cases_eq, cond_both, true≢false}
+use Rattle.std.proofs.Common.{◌≡◌, ◌==◌, ◌&&◌, ◌<◌, ◌+◌, ◌-◌, ℕ, Bool, true, false, cond, Option, Some, None, nat_lt, refl, sym, ap, ◌∙◌, inl, inr, arith, subst}
+use Rattle.std.proofs.lemmas.Bool.{cases_eq, cond_both, both_ways, true≢false}
 use Rattle.std.proofs.lemmas.Bool.Decides.{nat_tests}
 use Rattle.osal_base.specs.declared.reply.Answer.{Answer}
 use Rattle.osal_base.specs.declared.time.Moment.{Moment}
@@ -11,9 +11,10 @@ use Rattle.osal_idtable.proofs.Placed.{itself}
 use Rattle.osal_object.specs.Waits.{wait_of, waits_on}
 use Rattle.osal_object.specs.Objects.{ObjectsState, with_table, held_by_caller, hold_call_step, released_by_caller, release_call_step, caller_hold_limit}
 use Rattle.osal_object.specs.Outcomes.{Outcome, Ending, carried_out, given_up}
-use Rattle.osal_object.specs.ObjectLaws.{IsCounted}
+use Rattle.osal_object.specs.ObjectLaws.{IsCounted, holds_of}
 use Rattle.osal_object.proofs.Balance.{AreBalanced}
-use Rattle.osal_object.proofs.HeldEach.{one_there, write_here, write_there}
+use Rattle.osal_object.proofs.HeldEach.{there, one_there, write_here, write_there}
+use Rattle.osal_object.proofs.Moves.{is_there}
 use Rattle.osal_call.specs.declared.call.Call.{Call}
 use Rattle.osal_call.specs.declared.call.Call.TheVariants as call
 use Rattle.osal_call.specs.Signature.{timeout_of}
@@ -42,6 +43,13 @@ no_release : (q : ℕ) (made : Call) → is_holding made ≡ false → is_releas
 no_release q (call.Release id) none = absurd (true≢false none)
 no_release q _ none = refl
 
+-- identifiers that a test tells apart are not one
+pub differ : (test : ℕ → Bool) (id q : ℕ) → test id ≡ true → test q ≡ false → id ≡ q → ⊥
+differ test id q own other same = both_ways (test q) other (ap test (sym same) ∙ own)
+
+pub differ_too : (test : ℕ → Bool) (id q : ℕ) → test id ≡ false → test q ≡ true → id ≡ q → ⊥
+differ_too test id q other own same = both_ways (test q) (ap test (sym same) ∙ other) own
+
 -- what holds of a hold, of a release and of each other call holds of each call
 pub of_holding : (P : Call → Type 0) → ((id : ℕ) → P (call.Hold id)) → ((id : ℕ) → P (call.Release id)) → ((made : Call) → is_holding made ≡ false → P made) → (made : Call) → P made
 of_holding P holds releases others (call.Hold id) = holds id
@@ -69,6 +77,30 @@ module _ {T W : Type 0} where
   quiet_shifts q made old stepped none balanced =
       still q old stepped.1 _ _
       (ap (λ b. counts b stepped.0.answer) (no_hold q made none)) (ap (λ b. counts b stepped.0.answer) (no_release q made none)) balanced
+
+  -- so the holds of an identifier that is active before and after rise and fall
+  told : (q more less : ℕ) (old new : ObjectsState T W) → Shifts q more less old new → is_there old q ≡ true → is_there new q ≡ true → holds_of (active_at new.table q) + waits_on old.waits q + less ≡ holds_of (active_at old.table q) + waits_on new.waits q + more
+  told q more less old new shifts was now =
+      let before = there (active_at old.table q) was in
+      let after = there (active_at new.table q) now in
+      let both = shifts before.0 after.0 before.1 after.1 in
+      let old_holds = ap holds_of before.1 in
+      let new_holds = ap holds_of after.1 in
+      omega arith
+
+  -- so they do by what a call is and answers
+  pub told_by : (q : ℕ) (made : Call) (old : ObjectsState T W) (stepped : Replied × ObjectsState T W) → ShiftsBy q made old stepped → is_there old q ≡ true → is_there stepped.1 q ≡ true → holds_of (active_at stepped.1.table q) + waits_on old.waits q + counts (is_release_of q made) stepped.0.answer ≡ holds_of (active_at old.table q) + waits_on stepped.1.waits q + counts (is_hold_of q made) stepped.0.answer
+  told_by q made old stepped = told q (counts (is_hold_of q made) stepped.0.answer) (counts (is_release_of q made) stepped.0.answer) old stepped.1
+
+  -- a hold of another object, whatever it answers
+  pub others_hold : (q : ℕ) (objects : ObjectsState T W) (id : ℕ) (reply : Replied) → (id ≡ q → ⊥) → ShiftsBy q (call.Hold id) objects (reply, objects)
+  others_hold q objects id reply ne =
+      still q objects objects _ _ (ap (λ b. counts b reply.answer) (apart id q ne)) refl (same_balanced objects)
+
+  -- a release of another object
+  pub others_release : (q : ℕ) (objects : ObjectsState T W) (id : ℕ) (reply : Replied) → (id ≡ q → ⊥) → ShiftsBy q (call.Release id) objects (reply, objects)
+  others_release q objects id reply ne =
+      still q objects objects _ _ refl (ap (λ b. counts b reply.answer) (apart id q ne)) (same_balanced objects)
 
   module _ (objects : ObjectsState T W) (q : ℕ) where
     -- a call that is refused changes nothing

@@ -23,6 +23,7 @@ use Rattle.osal_laws.proofs.BinSemKnown.{bin_sems_known}
 use Rattle.osal_laws.proofs.MutexKnown.{mutexes_known}
 use Rattle.osal_laws.proofs.CondvarKnown.{condvars_known}
 use Rattle.osal_laws.proofs.TimeKnown.{timebases_stale, timers_stale, either_stale}
+use Rattle.osal_io.proofs.Known.{streams_stale, directories_stale, either_stale as any_stale}
 
 -- a call is refused, since its identifier is not active
 abbrev IsStale : Replied → Type 0
@@ -72,6 +73,7 @@ module _ (state : MachineState) (task : ℕ) (now : Moment) (made : Call) (may :
       (λ own gone. known_stale mutexes_known state.mutexes task now made id ends own on may (none_of (active_at state.mutexes.objects.table id) gone))
       (λ own gone. known_stale condvars_known state.condvars task now made id ends own on may (none_of (active_at state.condvars.objects.table id) gone))
       (λ own gone. either_stale state.time task now made id is gone)
+      (λ own gone. any_stale state.io task now made id is gone)
       (λ n own gone. none_there made id is)
       (part_of_id id) at none)
 
@@ -91,6 +93,9 @@ module _ (state : MachineState) (task : ℕ) (now : Moment) (made : Call) (may :
       in_part 5 at (known_stale condvars_known state.condvars task now made id ends at (ap (id_of task) is) may (none_of (active_at state.condvars.objects.table id) none))
   on_table what.Timebases id is at ends none = in_part 6 at (timebases_stale state.time task now made id is may none)
   on_table what.Timers id is at ends none = in_part 6 at (timers_stale state.time task now made id is may none)
+  on_table what.Streams id is at ends none = in_part 7 at (streams_stale state.io task now made id is may none)
+  on_table what.Directories id is at ends none =
+      in_part 7 at (directories_stale state.io task now made id is may none)
   on_table what.OfType id is at ends none = of_type id is at ends none
 
   -- a call by the object that it is on

@@ -80,7 +80,7 @@ module _ (objects : ObjectsState Task (Unit {0})) (all : AreFree objects.table.a
       (subst AreFree (sym (reserve_active objects.table (Some name))) all)
 
   -- a new task
-  pub free_create : (name : List ℕ) (task : Task) → AreFree (create_step objects name task).1.table.active
+  pub free_create : (name : List ℕ) (task : Task) → AreFree (create_step objects (Some name) task).1.table.active
   free_create name task = free_created name task (reserve_step objects.table (Some name)).0
 
   -- a removal

@@ -5,11 +5,13 @@ use Rattle.osal_base.specs.Limits.{Fits}
 use Rattle.osal_base.specs.Reply.{is_success}
 use Rattle.osal_object.specs.Waits.{waits_on}
 use Rattle.osal_time.specs.Time.{is_timer}
+use Rattle.osal_file.specs.Held.{is_of_directory}
+use Rattle.osal_io.specs.Io.{is_of_stream}
 use Rattle.osal_call.specs.declared.call.Call.{Call}
 use Rattle.osal_call.specs.declared.call.Call.TheVariants as call
 use Rattle.osal_call.specs.declared.call.Entry.{Entry}
 use Rattle.osal_call.specs.Signature.{part_of_id}
-use Rattle.osal_machine.specs.Parts.{PartState, Tasks, Queues, CountSems, BinSems, Mutexes, Condvars, Time, Absent}
+use Rattle.osal_machine.specs.Parts.{PartState, Tasks, Queues, CountSems, BinSems, Mutexes, Condvars, Time, Io, Absent}
 use Rattle.osal_machine.specs.Step.{MachineState, part_in, is_active}
 use Rattle.osal_machine.specs.History.{IsLegal, after_entry, replay}
 use Rattle.osal_laws.specs.Laws.{MakesActive, holds_in}
@@ -39,6 +41,10 @@ waits_in (BinSems sems) id = waits_on sems.objects.waits id
 waits_in (Mutexes mutexes) id = waits_on mutexes.objects.waits id
 waits_in (Condvars condvars) id = waits_on condvars.objects.waits id
 waits_in (Time time) id = if is_timer id then waits_on time.timers.waits id else waits_on time.timebases.waits id
+waits_in (Io io) id =
+    if is_of_stream id then waits_on io.streams.waits id
+    else (if is_of_directory id then waits_on io.files.directories.waits id
+    else waits_on io.files.systems.waits id)
 waits_in Absent id = 0
 
 -- an identifier is active after each of some entries

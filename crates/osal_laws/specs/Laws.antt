@@ -7,7 +7,7 @@ use Rattle.osal_base.specs.declared.status.Status.TheVariants as status
 use Rattle.osal_base.specs.declared.time.Moment.{Moment}
 use Rattle.osal_base.specs.Limits.{Fits}
 use Rattle.osal_base.specs.Reply.{reply_of, refusal, deleted, is_waits}
-use Rattle.osal_idtable.specs.Table.{Active}
+use Rattle.osal_idtable.specs.Table.{Active, active_at}
 use Rattle.osal_idtable.specs.WellFormed.{IsWellFormed}
 use Rattle.osal_object.specs.ObjectLaws.{IsCounted, holds_of}
 use Rattle.osal_task.specs.declared.part.Task.{Task}
@@ -20,12 +20,15 @@ use Rattle.osal_condvar.specs.Condvars.{condvar_at}
 use Rattle.osal_call.specs.Firing.{timer_limit}
 use Rattle.osal_time.specs.Time.{timebase_at, timer_at, is_timer}
 use Rattle.osal_time.specs.Attachment.{AreAttached}
+use Rattle.osal_file.specs.Files.{system_at}
+use Rattle.osal_file.specs.Held.{is_of_directory}
+use Rattle.osal_io.specs.Io.{stream_at, is_of_stream}
 use Rattle.osal_call.specs.declared.call.Call.{Call}
 use Rattle.osal_call.specs.declared.call.Call.TheVariants as call
 use Rattle.osal_call.specs.declared.call.Entry.{Entry}
 use Rattle.osal_call.specs.Signature.{Subject, Table, signature, subject_of, part_of, part_of_id, is_refused_before, is_wait_end}
 use Rattle.osal_call.specs.Signature as what
-use Rattle.osal_machine.specs.Parts.{PartState, Tasks, Queues, CountSems, BinSems, Mutexes, Condvars, Time, Absent}
+use Rattle.osal_machine.specs.Parts.{PartState, Tasks, Queues, CountSems, BinSems, Mutexes, Condvars, Time, Io, Absent}
 use Rattle.osal_machine.specs.Step.{MachineState, part_in, step, is_active}
 use Rattle.osal_machine.specs.OpenWaits.{has_wait}
 use Rattle.osal_machine.specs.History.{IsLegal, replay, entries_of_part}
@@ -40,6 +43,8 @@ is_active_among state what.Mutexes id = is_some (mutex_at state.mutexes id)
 is_active_among state what.Condvars id = is_some (condvar_at state.condvars id)
 is_active_among state what.Timebases id = is_some (timebase_at state.time id)
 is_active_among state what.Timers id = is_some (timer_at state.time id)
+is_active_among state what.Streams id = is_some (stream_at state.io id)
+is_active_among state what.Directories id = is_some (active_at state.io.files.directories.table id)
 is_active_among state what.OfType id = is_active state id
 
 -- whether the object that a call of a task is on is there; a call on none needs none
@@ -78,6 +83,10 @@ wraps_in (BinSems sems) id = sems.objects.table.wraps
 wraps_in (Mutexes mutexes) id = mutexes.objects.table.wraps
 wraps_in (Condvars condvars) id = condvars.objects.table.wraps
 wraps_in (Time time) id = if is_timer id then time.timers.table.wraps else time.timebases.table.wraps
+wraps_in (Io io) id =
+    if is_of_stream id then io.streams.table.wraps
+    else (if is_of_directory id then io.files.directories.table.wraps
+    else io.files.systems.table.wraps)
 wraps_in Absent id = 0
 
 -- the wrap count of an identifier's type
@@ -107,6 +116,10 @@ holds_in (BinSems sems) id = holds_of (bin_sem_at sems id)
 holds_in (Mutexes mutexes) id = holds_of (mutex_at mutexes id)
 holds_in (Condvars condvars) id = holds_of (condvar_at condvars id)
 holds_in (Time time) id = if is_timer id then holds_of (timer_at time id) else holds_of (timebase_at time id)
+holds_in (Io io) id =
+    if is_of_stream id then holds_of (stream_at io id)
+    else (if is_of_directory id then holds_of (active_at io.files.directories.table id)
+    else holds_of (system_at io.files id))
 holds_in Absent id = 0
 
 -- an entry that makes an identifier not active found no holds on it
@@ -155,6 +168,9 @@ pub record AreCounted (state : MachineState) : Type 0 where
   pub condvars : IsCounted state.condvars.objects
   pub timebases : IsCounted state.time.timebases
   pub timers : IsCounted state.time.timers
+  pub streams : IsCounted state.io.streams
+  pub systems : IsCounted state.io.files.systems
+  pub directories : IsCounted state.io.files.directories
 
 -- in every state of the machine the holds of an object are those of callers and the open waits that stand on it
 abbrev pub ObjectsAreCounted : Type 0
@@ -173,6 +189,9 @@ pub record AreWellFormed (state : MachineState) : Type 0 where
   pub condvars : IsWellFormed state.condvars.objects.table
   pub timebases : IsWellFormed state.time.timebases.table
   pub timers : IsWellFormed state.time.timers.table
+  pub streams : IsWellFormed state.io.streams.table
+  pub systems : IsWellFormed state.io.files.systems.table
+  pub directories : IsWellFormed state.io.files.directories.table
 
 -- in every state of the machine the tables are well formed
 abbrev pub TablesAreWellFormed : Type 0

@@ -1,9 +1,13 @@
 -- The call that a line makes names bodies that later lines declare.
-use Rattle.std.proofs.Common.{◌≡◌, ◌≤◌, ◌<◌, ◌+◌, ◌^◌, ℕ, List, [], ◌∷◌, false, Option, Some, None, option_map, option_and_then, refl, ap, ◌∙◌, arith}
-use Rattle.osal_base.specs.declared.time.Timeout.{Timeout}
+use Rattle.std.proofs.Common.{◌≡◌, ◌≤◌, ◌<◌, ◌+◌, ◌^◌, ℕ, ℤ, List, [], ◌∷◌, false, Option, Some, None, option_map, option_and_then, refl, ap, arith}
 use Rattle.std.proofs.lemmas.Bool.{cond_both}
+use Rattle.osal_base.specs.declared.arguments.OpenFlags.{OpenFlags}
+use Rattle.osal_base.specs.declared.arguments.Access.{Access}
+use Rattle.osal_base.specs.declared.arguments.Whence.{Whence}
 use Rattle.osal_call.specs.declared.word.CallWord.{CallWord}
 use Rattle.osal_call.specs.declared.word.CallWord.TheVariants as word
+use Rattle.osal_call.specs.declared.word.PathWord.{PathWord}
+use Rattle.osal_call.specs.declared.word.PathsWord.{PathsWord}
 use Rattle.osal_line.specs.declared.kind.BodyKind.{BodyKind}
 use Rattle.osal_line.specs.declared.kind.BodyKind.TheVariants as kind
 use Rattle.osal_line.specs.declared.line.ScriptCall.{ScriptCall}
@@ -11,13 +15,15 @@ use Rattle.osal_line.specs.declared.line.ScriptCall.TheVariants as script
 use Rattle.osal_line.specs.Bare.{is_task_creation}
 use Rattle.osal_line.specs.Between.{NamesBetween}
 use Rattle.osal_line.specs.Calls.{word_of}
-use Rattle.osal_line.specs.Payload.{payload_of}
-use Rattle.osal_line.specs.Values.{is_body_name, number_below}
+use Rattle.osal_line.specs.Transfers.{id_and_payload, id_and_room}
+use Rattle.osal_line.specs.Choices.{offset_of, whence_of}
+use Rattle.osal_line.specs.Values.{is_body_name, number_below, string_of}
 use Rattle.osal_line.specs.Registers.{Registers, register_at, body_at, body_number}
-use Rattle.osal_line.specs.Arguments.{as_call, only_id, named_at, only_name, id_and_wait, name_and_number, id_and_number, numbers_of}
+use Rattle.osal_line.specs.Arguments.{as_call, only_id, named_at, only_name, id_and_wait, name_and_number, id_and_number, numbers_of, strings_of}
 use Rattle.osal_line.specs.Tasks.{without_register, task_create_of, task_exit_of, task_delay_of}
-use Rattle.osal_line.specs.Queues.{queue_create_of, queue_put_of, room_of, queue_get_of}
+use Rattle.osal_line.specs.Queues.{queue_create_of}
 use Rattle.osal_line.specs.Timers.{timer_add_of, timer_set_of}
+use Rattle.osal_line.specs.Files.{path_call_of, paths_call_of, mkfs_of, opening_of, open_of, lseek_of}
 use Rattle.osal_line.specs.Grammar.{call_of_words}
 
 -- later lines declare bodies of the numbers from one on and below another
@@ -48,13 +54,15 @@ module _ (Well : ScriptCall → Type 0) where
   exit_made [] registers well = λ told. well
   exit_made (another ∷ words) registers well = tt
 
-  delay_found : (ms : Option ℕ) (registers : Registers) → ((n : ℕ) → Well (script.TaskDelay n)) → MakesWell Well (without_register registers (option_map (λ n. script.TaskDelay n) ms))
-  delay_found None registers well = tt
-  delay_found (Some n) registers well = λ told. well n
+  -- a call that names no register
+  unnamed_made : {A : Type 0} (make : A → ScriptCall) → ((a : A) → Well (make a)) → (registers : Registers) (found : Option A) → MakesWell Well (without_register registers (option_map make found))
+  unnamed_made make well registers None = tt
+  unnamed_made make well registers (Some a) = λ told. well a
 
   delay_made : (words : List (List ℕ)) (registers : Registers) → ((n : ℕ) → Well (script.TaskDelay n)) → MakesWell Well (without_register registers (task_delay_of words))
   delay_made [] registers well = tt
-  delay_made (ms ∷ []) registers well = delay_found (number_below (2 ^ 32) ms) registers well
+  delay_made (ms ∷ []) registers well =
+      unnamed_made (λ n. script.TaskDelay n) well registers (number_below (2 ^ 32) ms)
   delay_made (ms ∷ another ∷ words) registers well = tt
 
   queue_made : (words : List (List ℕ)) (registers : Registers) → ((register : ℕ) (name : List ℕ) (depth size : ℕ) → Well (script.QueueCreate register name depth size)) → MakesWell Well (queue_create_of words registers)
@@ -66,21 +74,6 @@ module _ (Well : ScriptCall → Type 0) where
       given Well (named_at registers register name) _ (λ named.
       given Well (numbers_of depth size) _ (λ sizes told. well named.0.0 named.0.1 sizes.0 sizes.1))
   queue_made (a ∷ b ∷ c ∷ d ∷ e ∷ words) registers well = tt
-
-  put_made : (words : List (List ℕ)) (registers : Registers) → ((id : ℕ) (payload : List ℕ) → Well (script.QueuePut id payload)) → MakesWell Well (queue_put_of words registers)
-  put_made [] registers well = tt
-  put_made (id ∷ words) registers well =
-      given Well (register_at registers id) _ (λ named.
-      given Well (payload_of words) _ (λ payload told. well named.0 payload))
-
-  get_made : (words : List (List ℕ)) (registers : Registers) → ((id n : ℕ) (wait : Timeout) → Well (script.QueueGet id n wait)) → MakesWell Well (queue_get_of words registers)
-  get_made [] registers well = tt
-  get_made (a ∷ []) registers well = tt
-  get_made (a ∷ b ∷ []) registers well = tt
-  get_made (id ∷ room ∷ wait ∷ []) registers well =
-      given Well (register_at registers id) _ (λ named.
-      given Well (room_of room wait) _ (λ how told. well named.0 how.0 how.1))
-  get_made (a ∷ b ∷ c ∷ d ∷ words) registers well = tt
 
   add_made : (later : List ℕ → Option ℕ) (words : List (List ℕ)) (registers : Registers) → ((register : ℕ) (name : List ℕ) (timebase handler : ℕ) → Well (script.TimerAdd register name timebase handler)) → MakesWell Well (timer_add_of later words registers)
   add_made later [] registers well = tt
@@ -102,6 +95,50 @@ module _ (Well : ScriptCall → Type 0) where
       given Well (numbers_of start interval) _ (λ usecs told. well named.0 usecs.0 usecs.1))
   set_made (a ∷ b ∷ c ∷ d ∷ words) registers well = tt
 
+  path_made : (called : PathWord) (words : List (List ℕ)) (registers : Registers) → ((path : List ℕ) → Well (script.Path called path)) → MakesWell Well (without_register registers (path_call_of called words))
+  path_made called [] registers well = tt
+  path_made called (path ∷ []) registers well =
+      unnamed_made (λ text. script.Path called text) well registers (string_of path)
+  path_made called (a ∷ b ∷ words) registers well = tt
+
+  paths_made : (called : PathsWord) (words : List (List ℕ)) (registers : Registers) → ((path to : List ℕ) → Well (script.Paths called path to)) → MakesWell Well (without_register registers (paths_call_of called words))
+  paths_made called [] registers well = tt
+  paths_made called (a ∷ []) registers well = tt
+  paths_made called (path ∷ to ∷ []) registers well =
+      unnamed_made (λ both. script.Paths called both.0 both.1) (λ both. well both.0 both.1) registers (strings_of path to)
+  paths_made called (a ∷ b ∷ c ∷ words) registers well = tt
+
+  mkfs_made : (words : List (List ℕ)) (registers : Registers) → ((device label : List ℕ) (blocks : ℕ) → Well (script.Mkfs device label blocks)) → MakesWell Well (without_register registers (mkfs_of words))
+  mkfs_made [] registers well = tt
+  mkfs_made (a ∷ []) registers well = tt
+  mkfs_made (a ∷ b ∷ []) registers well = tt
+  mkfs_made (device ∷ label ∷ blocks ∷ []) registers well =
+      let made = λ (o : Option ScriptCall). MakesWell Well (without_register registers o) in
+      bound made (strings_of device label) _ tt (λ both.
+      bound made (number_below (2 ^ 32) blocks) _ tt (λ count told. well both.0 both.1 count))
+  mkfs_made (a ∷ b ∷ c ∷ d ∷ words) registers well = tt
+
+  open_made : (words : List (List ℕ)) (registers : Registers) → ((register : ℕ) (path : List ℕ) (flags : OpenFlags) (access : Access) → Well (script.Open register path flags access)) → MakesWell Well (open_of words registers)
+  open_made [] registers well = tt
+  open_made (a ∷ []) registers well = tt
+  open_made (a ∷ b ∷ []) registers well = tt
+  open_made (a ∷ b ∷ c ∷ []) registers well = tt
+  open_made (register ∷ path ∷ flags ∷ access ∷ []) registers well =
+      given Well (named_at registers register path) _ (λ named.
+      given Well (opening_of flags access) _ (λ opening told. well named.0.0 named.0.1 opening.0 opening.1))
+  open_made (a ∷ b ∷ c ∷ d ∷ e ∷ words) registers well = tt
+
+  lseek_made : (words : List (List ℕ)) (registers : Registers) → ((id : ℕ) (offset : ℤ) (whence : Whence) → Well (script.Lseek id offset whence)) → MakesWell Well (lseek_of words registers)
+  lseek_made [] registers well = tt
+  lseek_made (a ∷ []) registers well = tt
+  lseek_made (a ∷ b ∷ []) registers well = tt
+  lseek_made (id ∷ offset ∷ whence ∷ []) registers well =
+      given Well (register_at registers id) _ (λ named.
+      let made = λ (o : Option ScriptCall). MakesWell Well (without_register named.1 o) in
+      bound made (offset_of offset) _ tt (λ far.
+      bound made (whence_of whence) _ tt (λ from told. well named.0 far from)))
+  lseek_made (a ∷ b ∷ c ∷ d ∷ words) registers well = tt
+
   -- what holds of a creation of a task with the body that it names, wherever one was declared
   task_made : (later : List ℕ → Option ℕ) → ((register : ℕ) (name : List ℕ) (body stack priority : ℕ) → (named : List ℕ) → (registers : Registers) → body ≡ (body_number registers (later named)).0 → (body_number registers (later named)).1.undeclared ≡ false → Well (script.TaskCreate register name body stack priority)) → (words : List (List ℕ)) (registers : Registers) → MakesWell Well (task_create_of later words registers)
   task_made later well [] registers = tt
@@ -122,14 +159,21 @@ module _ (Well : ScriptCall → Type 0) where
   others_made later (word.Wait called) other well words registers = plain_made Well (λ found. script.Wait called found.0 found.1) (λ found. well (script.Wait called found.0 found.1) refl) (id_and_wait words registers)
   others_made later (word.Value called) other well words registers = plain_made Well (λ found. script.Value called found.0 found.1 found.2) (λ found. well (script.Value called found.0 found.1 found.2) refl) (name_and_number words registers)
   others_made later (word.Number called) other well words registers = plain_made Well (λ found. script.Number called found.0 found.1) (λ found. well (script.Number called found.0 found.1) refl) (id_and_number words registers)
+  others_made later (word.Path called) other well words registers = path_made called words registers (λ path. well (script.Path called path) refl)
+  others_made later (word.Paths called) other well words registers = paths_made called words registers (λ path to. well (script.Paths called path to) refl)
   others_made later word.TaskCreate other well words registers = cc
   others_made later word.TaskExit other well words registers = exit_made words registers (well script.TaskExit refl)
   others_made later word.TaskDelay other well words registers = delay_made words registers (λ n. well (script.TaskDelay n) refl)
   others_made later word.QueueCreate other well words registers = queue_made words registers (λ register name depth size. well (script.QueueCreate register name depth size) refl)
-  others_made later word.QueuePut other well words registers = put_made words registers (λ id payload. well (script.QueuePut id payload) refl)
-  others_made later word.QueueGet other well words registers = get_made words registers (λ id n wait. well (script.QueueGet id n wait) refl)
+  others_made later word.QueuePut other well words registers = plain_made Well (λ found. script.QueuePut found.0 found.1) (λ found. well (script.QueuePut found.0 found.1) refl) (id_and_payload words registers)
+  others_made later word.QueueGet other well words registers = plain_made Well (λ found. script.QueueGet found.0 found.1 found.2) (λ found. well (script.QueueGet found.0 found.1 found.2) refl) (id_and_room words registers)
   others_made later word.TimerAdd other well words registers = add_made (later kind.Handler) words registers (λ register name timebase handler. well (script.TimerAdd register name timebase handler) refl)
   others_made later word.TimerSet other well words registers = set_made words registers (λ id start interval. well (script.TimerSet id start interval) refl)
+  others_made later word.Mkfs other well words registers = mkfs_made words registers (λ device label blocks. well (script.Mkfs device label blocks) refl)
+  others_made later word.Open other well words registers = open_made words registers (λ register path flags access. well (script.Open register path flags access) refl)
+  others_made later word.Read other well words registers = plain_made Well (λ found. script.Read found.0 found.1 found.2) (λ found. well (script.Read found.0 found.1 found.2) refl) (id_and_room words registers)
+  others_made later word.Write other well words registers = plain_made Well (λ found. script.Write found.0 found.1) (λ found. well (script.Write found.0 found.1) refl) (id_and_payload words registers)
+  others_made later word.Lseek other well words registers = lseek_made words registers (λ id offset whence. well (script.Lseek id offset whence) refl)
 
 module _ (number total : ℕ) where
   -- the body that a creation names

@@ -61,3 +61,10 @@ numbers_of one another = do
   first ← number_below (2 ^ 32) one
   second ← number_below (2 ^ 32) another
   Some (first, second)
+
+-- two strings
+abbrev pub strings_of : List ℕ → List ℕ → Option (List ℕ × List ℕ)
+strings_of one another = do
+  first ← string_of one
+  second ← string_of another
+  Some (first, second)

@@ -5,7 +5,7 @@ use Rattle.osal_call.specs.declared.call.Call.TheVariants as call
 use Rattle.osal_call.specs.declared.word.CallWord.{CallWord}
 use Rattle.osal_call.specs.declared.word.CallWord.TheVariants as word
 use Rattle.osal_call.specs.Call.{text_of}
-use Rattle.osal_call.specs.Signature.{object_call, name_call, wait_call, value_call, number_call, word_text}
+use Rattle.osal_call.specs.Signature.{object_call, name_call, wait_call, value_call, number_call, path_call, paths_call, word_text}
 use Rattle.osal_line.specs.declared.line.Line.{Line}
 use Rattle.osal_line.specs.declared.line.ScriptCall.{ScriptCall}
 use Rattle.osal_line.specs.declared.line.ScriptCall.TheVariants as script
@@ -17,6 +17,8 @@ call_of (script.Name called register name) registers = name_call called (text_of
 call_of (script.Wait called id wait) registers = wait_call called (slice_index registers id) wait
 call_of (script.Value called register name value) registers = value_call called (text_of name) value
 call_of (script.Number called id number) registers = number_call called (slice_index registers id) number
+call_of (script.Path called path) registers = path_call called (text_of path)
+call_of (script.Paths called path to) registers = paths_call called (text_of path) (text_of to)
 call_of (script.TaskCreate register name body stack priority) registers =
     call.TaskCreate (text_of name) body stack priority
 call_of script.TaskExit registers = call.TaskExit
@@ -27,6 +29,11 @@ call_of (script.QueueGet id n wait) registers = call.QueueGet (slice_index regis
 call_of (script.TimerAdd register name timebase handler) registers =
     call.TimerAdd (text_of name) (slice_index registers timebase) handler
 call_of (script.TimerSet id start interval) registers = call.TimerSet (slice_index registers id) start interval
+call_of (script.Mkfs device label blocks) registers = call.Mkfs (text_of device) (text_of label) blocks
+call_of (script.Open register path flags access) registers = call.Open (text_of path) flags access
+call_of (script.Read id n wait) registers = call.Read (slice_index registers id) n wait
+call_of (script.Write id payload) registers = call.Write (slice_index registers id) (text_of payload)
+call_of (script.Lseek id offset whence) registers = call.Lseek (slice_index registers id) offset whence
 
 -- the call of a line, or the exit where there is none
 abbrev pub call_made : Option Line → List ℕ → Call
@@ -40,6 +47,8 @@ word_of (script.Name called register name) = word.Name called
 word_of (script.Wait called id wait) = word.Wait called
 word_of (script.Value called register name value) = word.Value called
 word_of (script.Number called id number) = word.Number called
+word_of (script.Path called path) = word.Path called
+word_of (script.Paths called path to) = word.Paths called
 word_of (script.TaskCreate register name body stack priority) = word.TaskCreate
 word_of script.TaskExit = word.TaskExit
 word_of (script.TaskDelay ms) = word.TaskDelay
@@ -48,6 +57,11 @@ word_of (script.QueuePut id payload) = word.QueuePut
 word_of (script.QueueGet id n wait) = word.QueueGet
 word_of (script.TimerAdd register name timebase handler) = word.TimerAdd
 word_of (script.TimerSet id start interval) = word.TimerSet
+word_of (script.Mkfs device label blocks) = word.Mkfs
+word_of (script.Open register path flags access) = word.Open
+word_of (script.Read id n wait) = word.Read
+word_of (script.Write id payload) = word.Write
+word_of (script.Lseek id offset whence) = word.Lseek
 
 -- the name of a line's call
 abbrev pub call_name : ScriptCall → List ℕ
@@ -60,4 +74,5 @@ register_of (script.Value called register name value) = Some register
 register_of (script.TaskCreate register name body stack priority) = Some register
 register_of (script.QueueCreate register name depth size) = Some register
 register_of (script.TimerAdd register name timebase handler) = Some register
+register_of (script.Open register path flags access) = Some register
 register_of other = None

@@ -9,9 +9,12 @@ pub mod Places
 pub mod Registers
 pub mod Arguments
 pub mod Payload
+pub mod Transfers
+pub mod Choices
 pub mod Tasks
 pub mod Queues
 pub mod Timers
+pub mod Files
 pub mod Grammar
 pub mod Expectation
 pub mod Between

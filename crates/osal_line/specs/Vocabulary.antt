@@ -10,13 +10,9 @@ use Rattle.osal_line.specs.declared.grammar.FirstWord.TheVariants as first
 -- the calls that the machine does not make yet
 abbrev pub unbuilt_words : List (List ℕ)
 unbuilt_words =
-    codes "mkfs" ∷ codes "mount" ∷ codes "unmount" ∷ codes "rmfs" ∷ codes "stat_volume" ∷ codes "open" ∷ codes "read" ∷ codes "write"
-    ∷ codes "lseek" ∷ codes "close" ∷ codes "remove" ∷ codes "rename" ∷ codes "cp" ∷ codes "stat"
-    ∷ codes "mkdir" ∷ codes "rmdir" ∷ codes "dir_open" ∷ codes "dir_read" ∷ codes "dir_rewind"
-    ∷ codes "dir_close" ∷ codes "socket_open" ∷ codes "socket_bind" ∷ codes "socket_listen"
-    ∷ codes "socket_connect" ∷ codes "socket_accept" ∷ codes "socket_send" ∷ codes "socket_recv"
-    ∷ codes "socket_shutdown" ∷ codes "select_one" ∷ codes "select_multi" ∷ codes "console_write"
-    ∷ codes "console_enable" ∷ codes "console_disable" ∷ []
+    codes "socket_open" ∷ codes "socket_bind" ∷ codes "socket_listen" ∷ codes "socket_connect" ∷ codes "socket_accept"
+    ∷ codes "socket_send" ∷ codes "socket_recv" ∷ codes "socket_shutdown" ∷ codes "select_one" ∷ codes "select_multi"
+    ∷ codes "console_write" ∷ codes "console_enable" ∷ codes "console_disable" ∷ []
 
 -- a word whose lines are not read yet
 abbrev pub unbuilt_word : List ℕ → Option FirstWord

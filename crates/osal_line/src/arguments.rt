@@ -121,3 +121,20 @@ pub fn numbers_of(one: &[u8], another: &[u8]) -> Option<(u32, u32)>
 {
     Some((number_of(one)?, number_of(another)?))
 }
+
+/// Two strings.
+pub fn strings_of(
+    alloc: Global,
+    one: &[u8],
+    another: &[u8],
+) -> Result<Option<(Literal, Literal)>, OutOfMemory>
+    ensures { IfOk result (λ found. found ≡ arguments.strings_of one.now another.now) }
+{
+    let Some(first) = string_of(alloc, one)? else {
+        return Ok(None);
+    };
+    let Some(second) = string_of(alloc, another)? else {
+        return Ok(None);
+    };
+    Ok(Some((first, second)))
+}

@@ -6,6 +6,7 @@ ghost use Rattle.osal_line.specs.Grammar as grammar;
 use crate::ScriptCall;
 use crate::arguments::{id_and_number, id_and_wait, name_and_number, only_id, only_name};
 use crate::declarations::Declarations;
+use crate::files::{lseek_of, mkfs_of, open_of, path_call_of, paths_call_of, read_of, write_of};
 use crate::queues::{queue_create_of, queue_get_of, queue_put_of};
 use crate::registers::Registers;
 use crate::tasks::{task_create_of, task_delay_of, task_exit_of};
@@ -75,6 +76,8 @@ pub fn call_of_words(
             let found = id_and_number(words, registers)?;
             Ok(found.map(|(id, number)| ScriptCall::Number { word, id, number }))
         }
+        CallWord::Path(word) => path_call_of(alloc, word, words),
+        CallWord::Paths(word) => paths_call_of(alloc, word, words),
         CallWord::TaskCreate => task_create_of(alloc, words, declared, begun, registers),
         CallWord::TaskExit => Ok(task_exit_of(words)),
         CallWord::TaskDelay => Ok(task_delay_of(words)),
@@ -83,5 +86,10 @@ pub fn call_of_words(
         CallWord::QueueGet => queue_get_of(words, registers),
         CallWord::TimerAdd => timer_add_of(alloc, words, declared, begun, registers),
         CallWord::TimerSet => timer_set_of(words, registers),
+        CallWord::Mkfs => mkfs_of(alloc, words),
+        CallWord::Open => open_of(alloc, words, registers),
+        CallWord::Read => read_of(words, registers),
+        CallWord::Write => write_of(alloc, words, registers),
+        CallWord::Lseek => lseek_of(words, registers),
     }
 }

@@ -2,12 +2,15 @@
 #![tactic(auto)]
 
 mod arguments;
+mod choices;
 mod declarations;
 mod expectation;
+mod files;
 mod grammar;
 mod kind;
 mod line;
 mod literal;
+mod made;
 mod payload;
 mod queues;
 mod register;
@@ -15,6 +18,7 @@ mod registers;
 mod strings;
 mod tasks;
 mod timers;
+mod transfers;
 mod values;
 mod vocabulary;
 mod words;
@@ -23,8 +27,9 @@ pub use declarations::Declarations;
 pub use expectation::{Expect, Value, arrow_place, expectation_of};
 pub use grammar::{FirstWord, call_of_words};
 pub use kind::BodyKind;
-pub use line::{Line, ScriptCall, call_made, part_made, set_register};
+pub use line::{Line, ScriptCall, set_register};
 pub use literal::Literal;
+pub use made::{call_made, part_made};
 pub use register::{REGISTER_LIMIT, Register};
 pub use registers::Registers;
 pub use values::{is_body_name, number_of};

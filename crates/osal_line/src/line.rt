@@ -1,16 +1,15 @@
 //! A call line: what it calls, and what its reply leaves in the registers.
-ghost use Rattle.std.specs.Prelude.{◌≡◌, IfOk, option_copied, slice_index};
+ghost use Rattle.std.specs.Prelude.{◌≡◌};
 ghost use Rattle.osal_base.specs.Reply.{reply_of};
-ghost use Rattle.osal_call.specs.Call as machine;
-ghost use Rattle.osal_call.specs.Call.{said};
 ghost use Rattle.osal_line.specs.Bare.{is_tick_line};
 ghost use Rattle.osal_line.specs.Calls as calls;
 ghost use Rattle.osal_line.specs.Held.{registers_after};
 
 use crate::{Expect, Literal, Register};
-use osal_base::{Answer, OsalId, OutOfMemory, Reply, Timeout};
-use osal_call::{Call, CallWord, NameWord, NumberWord, ObjectWord, ValueWord, WaitWord, part_of};
-use std::alloc::Global;
+use osal_base::{Access, Answer, OpenFlags, Reply, Timeout, Whence};
+use osal_call::{
+    CallWord, NameWord, NumberWord, ObjectWord, PathWord, PathsWord, ValueWord, WaitWord,
+};
 
 /// A call as a line writes it, by the shape of its arguments: registers stand where identifiers will.
 #[derive(Drop)]
@@ -44,6 +43,17 @@ pub enum ScriptCall {
         word: NumberWord,
         id: Register,
         number: u32,
+    },
+    /// A call with a path or a device.
+    Path {
+        word: PathWord,
+        path: Literal,
+    },
+    /// A call with two paths, or a device and a path.
+    Paths {
+        word: PathsWord,
+        path: Literal,
+        to: Literal,
     },
     TaskCreate {
         register: Register,
@@ -90,6 +100,34 @@ pub enum ScriptCall {
         start: u32,
         interval: u32,
     },
+    Mkfs {
+        device: Literal,
+        label: Literal,
+        /// Of 512 bytes each.
+        blocks: u32,
+    },
+    Open {
+        register: Register,
+        path: Literal,
+        flags: OpenFlags,
+        access: Access,
+    },
+    Read {
+        id: Register,
+        /// The room for the bytes.
+        n: u32,
+        wait: Timeout,
+    },
+    Write {
+        id: Register,
+        payload: Literal,
+    },
+    Lseek {
+        id: Register,
+        /// In bytes.
+        offset: i64,
+        whence: Whence,
+    },
 }
 
 /// A call line.
@@ -99,115 +137,6 @@ pub struct Line {
     pub number: u32,
     pub call: ScriptCall,
     pub expect: Option<Expect>,
-}
-
-/// The call of a line under the registers, or the exit where there is no line.
-///
-/// A name and a payload are copied.
-pub fn call_made(
-    alloc: Global,
-    line: Option<&Line>,
-    registers: &[u32; 32],
-) -> Result<Call, OutOfMemory>
-    ensures { IfOk result (λ call. said call ≡ calls.call_made (option_copied line.entry) registers.now) }
-{
-    match line {
-        Some(line) => call_of(alloc, &line.call, registers),
-        None => Ok(Call::TaskExit),
-    }
-}
-
-/// The call that a line writes, with what the registers hold.
-fn call_of(alloc: Global, call: &ScriptCall, registers: &[u32; 32]) -> Result<Call, OutOfMemory>
-    ensures { IfOk result (λ made. said made ≡ calls.call_of call.now registers.now) }
-{
-    Ok(match call {
-        ScriptCall::Object { word, id } => word.call(held_in(registers, *id)),
-        ScriptCall::Name { word, name, .. } => word.call(name.copied(alloc)?),
-        ScriptCall::Wait { word, id, wait } => word.call(held_in(registers, *id), *wait),
-        ScriptCall::Value {
-            word,
-            name,
-            value,
-            ..
-        } => word.call(name.copied(alloc)?, *value),
-        ScriptCall::Number { word, id, number } => word.call(held_in(registers, *id), *number),
-        ScriptCall::TaskCreate {
-            name,
-            body,
-            stack,
-            priority,
-            ..
-        } => Call::TaskCreate {
-            name: name.copied(alloc)?,
-            body: *body,
-            stack: *stack,
-            priority: *priority,
-        },
-        ScriptCall::TaskExit => Call::TaskExit,
-        ScriptCall::TaskDelay { ms } => Call::TaskDelay { ms: *ms },
-        ScriptCall::QueueCreate {
-            name,
-            depth,
-            size,
-            ..
-        } => Call::QueueCreate {
-            name: name.copied(alloc)?,
-            depth: *depth,
-            size: *size,
-        },
-        ScriptCall::QueuePut { id, payload } => Call::QueuePut {
-            id: held_in(registers, *id),
-            payload: payload.copied(alloc)?,
-        },
-        ScriptCall::QueueGet { id, n, wait } => Call::QueueGet {
-            id: held_in(registers, *id),
-            n: *n,
-            wait: *wait,
-        },
-        ScriptCall::TimerAdd {
-            name,
-            timebase,
-            handler,
-            ..
-        } => Call::TimerAdd {
-            name: name.copied(alloc)?,
-            timebase: held_in(registers, *timebase),
-            handler: *handler,
-        },
-        ScriptCall::TimerSet {
-            id,
-            start,
-            interval,
-        } => Call::TimerSet {
-            id: held_in(registers, *id),
-            start: *start,
-            interval: *interval,
-        },
-    })
-}
-
-/// The number of the part whose call it is. It takes no memory.
-pub fn part_made(line: Option<&Line>, registers: &[u32; 32]) -> u32
-    ensures { result ≡ machine.part_of (calls.call_made (option_copied line.entry) registers.now) }
-{
-    let Some(line) = line else {
-        return 0;
-    };
-    match &line.call {
-        ScriptCall::Object { word, id } => part_of(&word.call(held_in(registers, *id))),
-        ScriptCall::Name { word, .. } => word.part(),
-        ScriptCall::Wait { word, id, wait } => part_of(&word.call(held_in(registers, *id), *wait)),
-        ScriptCall::Value { word, .. } => word.part(),
-        ScriptCall::Number { word, id, number } => {
-            part_of(&word.call(held_in(registers, *id), *number))
-        }
-        ScriptCall::TaskCreate { .. } | ScriptCall::TaskExit | ScriptCall::TaskDelay { .. } => 0,
-        ScriptCall::QueueCreate { .. }
-        | ScriptCall::QueuePut { .. }
-        | ScriptCall::QueueGet { .. } => 1,
-        ScriptCall::TimerAdd { .. } | ScriptCall::TimerSet { .. } => 6,
-    }
 }
 
 impl ScriptCall {
@@ -221,6 +150,8 @@ impl ScriptCall {
             ScriptCall::Wait { word, .. } => CallWord::Wait(*word),
             ScriptCall::Value { word, .. } => CallWord::Value(*word),
             ScriptCall::Number { word, .. } => CallWord::Number(*word),
+            ScriptCall::Path { word, .. } => CallWord::Path(*word),
+            ScriptCall::Paths { word, .. } => CallWord::Paths(*word),
             ScriptCall::TaskCreate { .. } => CallWord::TaskCreate,
             ScriptCall::TaskExit => CallWord::TaskExit,
             ScriptCall::TaskDelay { .. } => CallWord::TaskDelay,
@@ -229,6 +160,11 @@ impl ScriptCall {
             ScriptCall::QueueGet { .. } => CallWord::QueueGet,
             ScriptCall::TimerAdd { .. } => CallWord::TimerAdd,
             ScriptCall::TimerSet { .. } => CallWord::TimerSet,
+            ScriptCall::Mkfs { .. } => CallWord::Mkfs,
+            ScriptCall::Open { .. } => CallWord::Open,
+            ScriptCall::Read { .. } => CallWord::Read,
+            ScriptCall::Write { .. } => CallWord::Write,
+            ScriptCall::Lseek { .. } => CallWord::Lseek,
         }
     }
 
@@ -248,15 +184,22 @@ impl ScriptCall {
             | ScriptCall::Value { register, .. }
             | ScriptCall::TaskCreate { register, .. }
             | ScriptCall::QueueCreate { register, .. }
-            | ScriptCall::TimerAdd { register, .. } => Some(*register),
+            | ScriptCall::TimerAdd { register, .. }
+            | ScriptCall::Open { register, .. } => Some(*register),
             ScriptCall::Object { .. }
             | ScriptCall::Wait { .. }
             | ScriptCall::Number { .. }
+            | ScriptCall::Path { .. }
+            | ScriptCall::Paths { .. }
             | ScriptCall::TaskExit
             | ScriptCall::TaskDelay { .. }
             | ScriptCall::QueuePut { .. }
             | ScriptCall::QueueGet { .. }
-            | ScriptCall::TimerSet { .. } => None,
+            | ScriptCall::TimerSet { .. }
+            | ScriptCall::Mkfs { .. }
+            | ScriptCall::Read { .. }
+            | ScriptCall::Write { .. }
+            | ScriptCall::Lseek { .. } => None,
         }
     }
 
@@ -281,11 +224,4 @@ pub fn set_register(registers: &mut [u32; 32], call: &ScriptCall, reply: &Reply)
     if let (Some(register), Answer::Code(0)) = (call.register(), reply.answer) {
         registers[register.index()] = (reply.number % (1 << 32)) as u32;
     }
-}
-
-/// The identifier in a register.
-pub(crate) fn held_in(registers: &[u32; 32], register: Register) -> OsalId
-    ensures { result ≡ slice_index registers.now register }
-{
-    OsalId::of_raw(registers[register.index()])
 }

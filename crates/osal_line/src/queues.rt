@@ -4,10 +4,9 @@ ghost use Rattle.osal_line.specs.Queues as queues;
 
 use crate::ScriptCall;
 use crate::arguments::{named_at, numbers_of};
-use crate::payload::payload_of;
 use crate::registers::Registers;
-use crate::values::{number_of, wait_of};
-use osal_base::{OutOfMemory, Timeout};
+use crate::transfers::{id_and_payload, id_and_room};
+use osal_base::OutOfMemory;
 use std::alloc::Global;
 
 /// A creation: the register, the name, the depth and the size.
@@ -47,16 +46,8 @@ pub fn queue_put_of(
         queues.queue_put_of (map (λ word. word.now) words.now) registers.old
         ≡ option_map (λ call. (call, registers.new)) made) }
 {
-    if words.is_empty() {
-        return Ok(None);
-    }
-    let Some(id) = registers.register_at(words[0])? else {
-        return Ok(None);
-    };
-    let Some(payload) = payload_of(alloc, &words[1..])? else {
-        return Ok(None);
-    };
-    Ok(Some(ScriptCall::QueuePut { id, payload }))
+    let found = id_and_payload(alloc, words, registers)?;
+    Ok(found.map(|(id, payload)| ScriptCall::QueuePut { id, payload }))
 }
 
 /// A get: the queue, the room and the wait.
@@ -68,21 +59,6 @@ pub fn queue_get_of(
         queues.queue_get_of (map (λ word. word.now) words.now) registers.old
         ≡ option_map (λ call. (call, registers.new)) made) }
 {
-    if words.len() != 3 {
-        return Ok(None);
-    }
-    let Some(id) = registers.register_at(words[0])? else {
-        return Ok(None);
-    };
-    let Some((n, wait)) = room_of(words[1], words[2]) else {
-        return Ok(None);
-    };
-    Ok(Some(ScriptCall::QueueGet { id, n, wait }))
-}
-
-/// The room and the wait of a get.
-fn room_of(room: &[u8], wait: &[u8]) -> Option<(u32, Timeout)>
-    ensures { result ≡ queues.room_of room.now wait.now }
-{
-    Some((number_of(room)?, wait_of(wait)?))
+    let found = id_and_room(words, registers)?;
+    Ok(found.map(|(id, n, wait)| ScriptCall::QueueGet { id, n, wait }))
 }

@@ -216,17 +216,18 @@ fn signed_of(word: &[u8]) -> Option<i32>
 {
     let (first, rest) = word.split_first()?;
     if *first == b'-' {
-        Some(negated(digits_of(10, 2147483648, rest)?))
+        Some(negated(digits_of(10, 2147483648, rest)?) as i32)
     } else {
         Some(digits_of(10, 2147483647, word)? as i32)
     }
 }
 
-fn negated(number: u64) -> i32
-    requires { number ≤ 2 ^ 31 }
+/// Zero or less.
+pub fn negated(number: u64) -> i64
+    requires { number ≤ 2 ^ 32 }
     ensures { result ≡ values.negated number }
 {
-    (-(number as i64)) as i32
+    -(number as i64)
 }
 
 /// The code that a word stands for: a status name, or a decimal number.

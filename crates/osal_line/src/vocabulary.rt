@@ -8,27 +8,7 @@ use crate::grammar::FirstWord;
 use osal_call::call_word;
 
 /// The words whose lines are not read yet.
-const UNBUILT: [&str; 33] = [
-    "mkfs",
-    "mount",
-    "unmount",
-    "rmfs",
-    "stat_volume",
-    "open",
-    "read",
-    "write",
-    "lseek",
-    "close",
-    "remove",
-    "rename",
-    "cp",
-    "stat",
-    "mkdir",
-    "rmdir",
-    "dir_open",
-    "dir_read",
-    "dir_rewind",
-    "dir_close",
+const UNBUILT: [&str; 13] = [
     "socket_open",
     "socket_bind",
     "socket_listen",

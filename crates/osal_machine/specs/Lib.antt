@@ -13,6 +13,8 @@ pub use Rattle.osal_time.specs.Time
 pub use Rattle.osal_time.specs.Ticks
 pub use Rattle.osal_time.specs.Timers
 pub use Rattle.osal_time.specs.Calls as TimeCalls
+pub use Rattle.osal_io.specs.Io
+pub use Rattle.osal_io.specs.Calls as IoCalls
 pub mod Parts
 pub mod Step
 pub mod OpenWaits

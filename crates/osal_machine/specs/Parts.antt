@@ -14,6 +14,9 @@ use Rattle.osal_condvar.specs.Condvars.{CondvarState, condvar_at, condvar_step}
 use Rattle.osal_time.specs.Time as of_time
 use Rattle.osal_time.specs.Time.{TimeState}
 use Rattle.osal_time.specs.Calls.{time_step}
+use Rattle.osal_io.specs.Io as of_io
+use Rattle.osal_io.specs.Io.{IoState}
+use Rattle.osal_io.specs.Calls.{io_step}
 use Rattle.osal_call.specs.declared.call.Call.{Call}
 use Rattle.osal_call.specs.declared.call.Call.TheVariants as call
 
@@ -26,6 +29,7 @@ pub data PartState : Type 0 where
   Mutexes : MutexState → PartState
   Condvars : CondvarState → PartState
   Time : TimeState → PartState
+  Io : IoState → PartState
   Absent : PartState
 
 -- what a part without objects and waits answers: no identifier is active, and no task waits
@@ -47,6 +51,7 @@ part_step (BinSems sems) task now made = as_part (λ s. BinSems s) (bin_sem_step
 part_step (Mutexes mutexes) task now made = as_part (λ s. Mutexes s) (mutex_step mutexes task now made)
 part_step (Condvars condvars) task now made = as_part (λ s. Condvars s) (condvar_step condvars task now made)
 part_step (Time time) task now made = as_part (λ s. Time s) (time_step time task now made)
+part_step (Io io) task now made = as_part (λ s. Io s) (io_step io task now made)
 part_step Absent task now made = (absent_reply made, Absent)
 
 -- whether an identifier is active in a part
@@ -58,6 +63,7 @@ is_active_in (BinSems sems) id = is_some (bin_sem_at sems id)
 is_active_in (Mutexes mutexes) id = is_some (mutex_at mutexes id)
 is_active_in (Condvars condvars) id = is_some (condvar_at condvars id)
 is_active_in (Time time) id = of_time.is_active time id
+is_active_in (Io io) id = of_io.is_active io id
 is_active_in Absent id = false
 
 -- whether a task is active in a part and not marked for deletion: only the task part has tasks

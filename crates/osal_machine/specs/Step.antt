@@ -10,8 +10,9 @@ use Rattle.osal_sem.specs.Binary.{BinSemState, no_bin_sems}
 use Rattle.osal_mutex.specs.Mutexes.{MutexState, no_mutexes}
 use Rattle.osal_condvar.specs.Condvars.{CondvarState, no_condvars}
 use Rattle.osal_time.specs.Time.{TimeState, time_start}
+use Rattle.osal_io.specs.Io.{IoState, no_io}
 use Rattle.osal_call.specs.Call.{part_of, part_of_id}
-use Rattle.osal_machine.specs.Parts.{PartState, Tasks, Queues, CountSems, BinSems, Mutexes, Condvars, Time, Absent, part_step, is_active_in}
+use Rattle.osal_machine.specs.Parts.{PartState, Tasks, Queues, CountSems, BinSems, Mutexes, Condvars, Time, Io, Absent, part_step, is_active_in}
 use Rattle.osal_call.specs.declared.call.Call.{Call}
 use Rattle.osal_call.specs.declared.call.Call.TheVariants as call
 
@@ -24,6 +25,7 @@ pub record MachineState : Type 0 where
   pub mutexes : MutexState
   pub condvars : CondvarState
   pub time : TimeState
+  pub io : IoState
 
 -- no objects, at the start of time
 abbrev pub opening : Limits → MachineState
@@ -35,6 +37,7 @@ opening limits = record {
   mutexes = no_mutexes limits;
   condvars = no_condvars limits;
   time = time_start limits;
+  io = no_io limits;
 }
 
 -- the part of that number
@@ -47,7 +50,8 @@ part_in part state =
     else (if part == 4 then Mutexes state.mutexes
     else (if part == 5 then Condvars state.condvars
     else (if part == 6 then Time state.time
-    else Absent))))))
+    else (if part == 7 then Io state.io
+    else Absent)))))))
 
 -- the machine with another state of a part
 abbrev pub with_part : MachineState → PartState → MachineState
@@ -58,6 +62,7 @@ with_part state (BinSems sems) = record state { bin_sems = sems }
 with_part state (Mutexes mutexes) = record state { mutexes = mutexes }
 with_part state (Condvars condvars) = record state { condvars = condvars }
 with_part state (Time time) = record state { time = time }
+with_part state (Io io) = record state { io = io }
 with_part state Absent = state
 
 -- a part's call changes that part alone

@@ -8,6 +8,7 @@ use crate::Part;
 use osal_base::{Ack, Moment, OsalId, OutOfMemory, Room};
 use osal_call::Call;
 use osal_condvar::CondvarPart;
+use osal_io::IoPart;
 use osal_mutex::MutexPart;
 use osal_queue::QueuePart;
 use osal_sem::{BinSemPart, CountSemPart};
@@ -25,6 +26,7 @@ pub enum AnyPart {
     Mutex(MutexPart),
     Condvar(CondvarPart),
     Time(TimePart),
+    Io(IoPart),
 }
 
 impl Part for AnyPart {
@@ -46,6 +48,7 @@ impl Part for AnyPart {
             AnyPart::Mutex(part) => part.apply(alloc, task, now, call, room),
             AnyPart::Condvar(part) => part.apply(alloc, task, now, call, room),
             AnyPart::Time(part) => part.apply(alloc, task, now, call, room),
+            AnyPart::Io(part) => part.apply(alloc, task, now, call, room),
         }
     }
 
@@ -58,6 +61,7 @@ impl Part for AnyPart {
             AnyPart::Mutex(own) => own.ready(task, now, part),
             AnyPart::Condvar(own) => own.ready(task, now, part),
             AnyPart::Time(own) => own.ready(task, now, part),
+            AnyPart::Io(own) => own.ready(task, now, part),
         }
     }
 
@@ -70,6 +74,7 @@ impl Part for AnyPart {
             AnyPart::Mutex(part) => part.active(id),
             AnyPart::Condvar(part) => part.active(id),
             AnyPart::Time(part) => part.active(id),
+            AnyPart::Io(part) => part.active(id),
         }
     }
 

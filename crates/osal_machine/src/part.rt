@@ -16,8 +16,8 @@ pub trait Part {
 
     /// Makes a call that is the part's own. The bytes of the reply are left in the room.
     ///
-    /// Only the creation of a queue takes memory, which it asks for last: where there is none, nothing changes, and
-    /// nothing else would have refused the call.
+    /// A queue and a volume take memory when they are made, a directory when it is opened, and ask for it last: where
+    /// there is none, nothing changes, and nothing else would have refused the call.
     fn apply(
         &mut self,
         alloc: Global,

@@ -6,6 +6,7 @@ ghost use Rattle.osal_machine.specs.Parts.{absent_reply};
 mod bin_sems;
 mod condvars;
 mod count_sems;
+mod io;
 mod mutexes;
 mod queues;
 mod tasks;

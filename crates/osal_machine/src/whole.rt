@@ -13,6 +13,7 @@ use crate::parts::absent;
 use osal_base::{Ack, Limits, Moment, OsalId, OutOfMemory, Room};
 use osal_call::{Call, part_of, part_of_id};
 use osal_condvar::CondvarPart;
+use osal_io::IoPart;
 use osal_mutex::MutexPart;
 use osal_object::sooner;
 use osal_queue::QueuePart;
@@ -32,18 +33,20 @@ pub struct Whole {
     mutexes: MutexPart,
     condvars: CondvarPart,
     time: TimePart,
+    io: IoPart,
 }
 
 impl Model for Whole {
     ghost use Rattle.osal_machine.specs.Step.{MachineState};
     ghost use Rattle.std.specs.Coded.{codes};
     ghost use Rattle.osal_object.specs.Code.{objects_code};
+    ghost use Rattle.osal_io.specs.contracts.part.IoPart as of_io;
 
     ghost Value = { MachineState };
 
-    ghost coded = { Prim.hlevel (codes, objects_code) };
+    ghost coded = { Prim.hlevel (codes, objects_code, of_io.the_row.coded) };
 
-    ghost view = { λ a. record { tasks = a.tasks; queues = a.queues; count_sems = a.count_sems; bin_sems = a.bin_sems; mutexes = a.mutexes; condvars = a.condvars; time = a.time } };
+    ghost view = { λ a. record { tasks = a.tasks; queues = a.queues; count_sems = a.count_sems; bin_sems = a.bin_sems; mutexes = a.mutexes; condvars = a.condvars; time = a.time; io = a.io } };
 
     ghost invariant = { λ a. Unit {0} };
 }
@@ -57,6 +60,7 @@ impl Whole {
         let (tasks, queues) = open_tasks_and_queues(alloc, limits)?;
         let (count_sems, bin_sems, mutexes) = open_locks(alloc, limits)?;
         let (condvars, time) = open_condvars_and_time(alloc, limits)?;
+        let io = IoPart::open(alloc, limits)?;
         Ok(Whole {
             tasks,
             queues,
@@ -65,13 +69,14 @@ impl Whole {
             mutexes,
             condvars,
             time,
+            io,
         })
     }
 
     /// Makes a call of a task: one step of the machine. The bytes of the reply are left in the room.
     ///
-    /// Only the creation of a queue takes memory, which it asks for last: where there is none, nothing changes, and
-    /// nothing else would have refused the call.
+    /// A queue and a volume take memory when they are made, a directory when it is opened, and ask for it last: where
+    /// there is none, nothing changes, and nothing else would have refused the call.
     pub fn apply(
         &mut self,
         alloc: Global,
@@ -93,6 +98,7 @@ impl Whole {
             4 => Part::apply(&mut self.mutexes, alloc, task, now, call, room),
             5 => Part::apply(&mut self.condvars, alloc, task, now, call, room),
             6 => Part::apply(&mut self.time, alloc, task, now, call, room),
+            7 => Part::apply(&mut self.io, alloc, task, now, call, room),
             _ => {
                 room.clear();
                 Ok(absent(call))
@@ -127,6 +133,7 @@ impl Whole {
             4 => self.mutexes.active(id),
             5 => self.condvars.active(id),
             6 => self.time.active(id),
+            7 => self.io.active(id),
             _ => false,
         }
     }

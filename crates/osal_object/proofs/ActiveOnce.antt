@@ -1,5 +1,5 @@
 -- An identifier becomes active only by a create that issues it, and so not again before the wrap count has risen.
-use Rattle.std.proofs.Common.{◌≡◌, ◌<◌, ◌-◌, ◌^◌, ℕ, true, false, List, ◌∷◌, Some, None, is_some, Result, Ok, Err, refl, sym, ap, subst, ◌∙◌, inl, inr, arith}
+use Rattle.std.proofs.Common.{◌≡◌, ◌<◌, ◌-◌, ◌^◌, ℕ, true, false, List, Option, ◌∷◌, Some, None, is_some, Result, Ok, Err, refl, sym, ap, subst, ◌∙◌, inl, inr, arith}
 use Rattle.std.specs.FinMap as map
 use Rattle.std.proofs.lemmas.Bool.{cases_eq, both_ways}
 use Rattle.osal_idtable.specs.declared.table.ReserveFault.{ReserveFault}
@@ -18,21 +18,21 @@ use Rattle.osal_object.proofs.Activity.{reserve_active, settle_elsewhere, change
 module _ {T : Type 0} where
   -- an identifier was issued under a name and made active in one step
   record IsMade (old new : TableState T) (id : ℕ) : Type 0 where
-    name : List ℕ
+    name : Option (List ℕ)
     object : T
     reserved : Reserved
-    issued : (reserve_step old (Some name)).0 ≡ Ok reserved
-    table : new ≡ finalize_step (reserve_step old (Some name)).1 reserved.id (Some object)
+    issued : (reserve_step old name).0 ≡ Ok reserved
+    table : new ≡ finalize_step (reserve_step old name).1 reserved.id (Some object)
     same : reserved.id ≡ id
 
-  made_is : (old : TableState T) (name : List ℕ) (object : T) (reserved : Reserved) (id : ℕ) → is_some (active_at old id) ≡ false → is_some (active_at (finalize_step (reserve_step old (Some name)).1 reserved.id (Some object)) id) ≡ true → reserved.id ≡ id
+  made_is : (old : TableState T) (name : Option (List ℕ)) (object : T) (reserved : Reserved) (id : ℕ) → is_some (active_at old id) ≡ false → is_some (active_at (finalize_step (reserve_step old name).1 reserved.id (Some object)) id) ≡ true → reserved.id ≡ id
   made_is old name object reserved id before after =
-      let table = (reserve_step old (Some name)).1 in
+      let table = (reserve_step old name).1 in
       elim (cases_eq id reserved.id) [
         | inl same ↦ sym same
         | inr ne ↦
             let kept : active_at (finalize_step table reserved.id (Some object)) id ≡ active_at old id =
-            settle_elsewhere table reserved.id (map.get table.reserved reserved.id) object id ne ∙ ap (λ m. map.get m id) (reserve_active old (Some name)) in
+            settle_elsewhere table reserved.id (map.get table.reserved reserved.id) object id ne ∙ ap (λ m. map.get m id) (reserve_active old name) in
             absurd (both_ways (is_some (active_at old id)) before (sym (ap is_some kept) ∙ after))
       ]
 
@@ -47,15 +47,15 @@ module _ {T : Type 0} where
       ]
 
   -- what is issued later is not the same before the wrap count has risen
-  risen : (table : TableState T) (name : List ℕ) (object : T) (reserved : Reserved) → (reserve_step table (Some name)).0 ≡ Ok reserved → (calls : List (Call T)) (later : TableState T) → after_calls (finalize_step (reserve_step table (Some name)).1 reserved.id (Some object)) calls ≡ later → (other : List ℕ) (again : Reserved) → (reserve_step later (Some other)).0 ≡ Ok again → again.id ≡ reserved.id → (reserve_step table (Some name)).1.wraps < 2 ^ 64 - 1 → (reserve_step table (Some name)).1.wraps < (reserve_step later (Some other)).1.wraps
+  risen : (table : TableState T) (name : Option (List ℕ)) (object : T) (reserved : Reserved) → (reserve_step table name).0 ≡ Ok reserved → (calls : List (Call T)) (later : TableState T) → after_calls (finalize_step (reserve_step table name).1 reserved.id (Some object)) calls ≡ later → (other : Option (List ℕ)) (again : Reserved) → (reserve_step later other).0 ≡ Ok again → again.id ≡ reserved.id → (reserve_step table name).1.wraps < 2 ^ 64 - 1 → (reserve_step table name).1.wraps < (reserve_step later other).1.wraps
   risen table name object reserved issued calls later is other again =
-      let P : TableState T → Type 0 = λ t. (reserve_step t (Some other)).0 ≡ Ok again → again.id ≡ reserved.id → (reserve_step table (Some name)).1.wraps < 2 ^ 64 - 1 → (reserve_step table (Some name)).1.wraps < (reserve_step t (Some other)).1.wraps in
-      subst P is (not_reissued T table (Some name) reserved issued (Finalize reserved.id (Some object) ∷ calls) (Some other) again)
+      let P : TableState T → Type 0 = λ t. (reserve_step t other).0 ≡ Ok again → again.id ≡ reserved.id → (reserve_step table name).1.wraps < 2 ^ 64 - 1 → (reserve_step table name).1.wraps < (reserve_step t other).1.wraps in
+      subst P is (not_reissued T table name reserved issued (Finalize reserved.id (Some object) ∷ calls) other again)
 
   -- a create leaves the wrap count of its reservation
-  wraps_of : (old new : TableState T) (id : ℕ) (made : IsMade old new id) → new.wraps ≡ (reserve_step old (Some made.name)).1.wraps
+  wraps_of : (old new : TableState T) (id : ℕ) (made : IsMade old new id) → new.wraps ≡ (reserve_step old made.name).1.wraps
   wraps_of old new id made =
-      let table = (reserve_step old (Some made.name)).1 in
+      let table = (reserve_step old made.name).1 in
       ap (λ (t : TableState T). t.wraps) made.table
       ∙ ap (λ p. p.wraps) (settle_stays table made.reserved.id (map.get table.reserved made.reserved.id) (Some made.object)).1
 
@@ -67,7 +67,7 @@ module _ {T : Type 0} where
       omega arith
 
 module _ {T W : Type 0} (objects : ObjectsState T W) (id : ℕ) (before : is_some (active_at objects.table id) ≡ false) where
-  made_by : (name : List ℕ) (object : T) (r : Result Reserved ReserveFault) → (reserve_step objects.table (Some name)).0 ≡ r → is_some (active_at (created objects object r (reserve_step objects.table (Some name)).1).1.table id) ≡ true → IsMade objects.table (created objects object r (reserve_step objects.table (Some name)).1).1.table id
+  made_by : (name : Option (List ℕ)) (object : T) (r : Result Reserved ReserveFault) → (reserve_step objects.table name).0 ≡ r → is_some (active_at (created objects object r (reserve_step objects.table name).1).1.table id) ≡ true → IsMade objects.table (created objects object r (reserve_step objects.table name).1).1.table id
   made_by name object (Err fault) is after = absurd (both_ways (is_some (active_at objects.table id)) before after)
   made_by name object (Ok reserved) is after = record {
     name = name;
@@ -80,7 +80,7 @@ module _ {T W : Type 0} (objects : ObjectsState T W) (id : ℕ) (before : is_som
 
   -- only a create makes an identifier active
   made : (move : Move T W) → is_some (active_at (moved objects move).table id) ≡ true → IsMade objects.table (moved objects move).table id
-  made (Create name object) after = made_by name object (reserve_step objects.table (Some name)).0 refl after
+  made (Create name object) after = made_by name object (reserve_step objects.table name).0 refl after
   made (Remove other) after =
       absurd (both_ways (is_some (active_at objects.table id)) before (none_taken_in objects.table other id (unheld (active_at objects.table other)) after))
   made (Changes changes) after =

@@ -145,12 +145,12 @@ module _ {T W : Type 0} (objects : ObjectsState T W) where
   change_alike (Mark test) = λ q. refl
 
   -- a create removes nothing
-  pub create_grows : (name : List ℕ) (object : T) (r : Result Reserved ReserveFault) → Grows objects.table (created objects object r (reserve_step objects.table (Some name)).1).1.table
+  pub create_grows : (name : Option (List ℕ)) (object : T) (r : Result Reserved ReserveFault) → Grows objects.table (created objects object r (reserve_step objects.table name).1).1.table
   create_grows name object (Err fault) = λ q some. some
   create_grows name object (Ok reserved) = λ q some.
-      let table = (reserve_step objects.table (Some name)).1 in
+      let table = (reserve_step objects.table name).1 in
       settle_grows table reserved.id (map.get table.reserved reserved.id) object q
-      (ap (λ m. is_some (map.get m q)) (reserve_active objects.table (Some name)) ∙ some)
+      (ap (λ m. is_some (map.get m q)) (reserve_active objects.table name) ∙ some)
 
 module _ {T W : Type 0} where
   -- changes make nothing active and remove nothing
@@ -162,7 +162,7 @@ module _ {T W : Type 0} where
 -- no held object is removed
 pub held_objects_stay : (T W : Type 0) → HeldObjectsStay T W
 held_objects_stay T W objects (Create name object) id a here gone =
-    absurd (both_ways _ gone (create_grows objects name object (reserve_step objects.table (Some name)).0 id (ap is_some here)))
+    absurd (both_ways _ gone (create_grows objects name object (reserve_step objects.table name).0 id (ap is_some here)))
 held_objects_stay T W objects (Remove other) id a here gone =
     taken_unheld objects.table other id (active_at objects.table other) a refl here gone
 held_objects_stay T W objects (Changes changes) id a here gone =

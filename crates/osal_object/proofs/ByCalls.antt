@@ -99,10 +99,10 @@ module _ {T W : Type 0} (objects : ObjectsState T W) where
   by_change (End task) = by_end task (wait_of objects.waits task)
   by_change (Mark test) = by_none objects.table
 
-  by_create : (name : List ℕ) (object : T) (r : Result Reserved ReserveFault) → IsByCalls objects.table (created objects object r (reserve_step objects.table (Some name)).1).1.table
+  by_create : (name : Option (List ℕ)) (object : T) (r : Result Reserved ReserveFault) → IsByCalls objects.table (created objects object r (reserve_step objects.table name).1).1.table
   by_create name object (Err fault) = by_none objects.table
   by_create name object (Ok reserved) = record {
-    calls = call.Reserve (Some name) ∷ call.Finalize reserved.id (Some object) ∷ [];
+    calls = call.Reserve name ∷ call.Finalize reserved.id (Some object) ∷ [];
     same = refl;
   }
 
@@ -114,7 +114,7 @@ module _ {T W : Type 0} where
 
   -- a move is some calls
   pub by_move : (objects : ObjectsState T W) (move : Move T W) → IsByCalls objects.table (moved objects move).table
-  by_move objects (Create name object) = by_create objects name object (reserve_step objects.table (Some name)).0
+  by_move objects (Create name object) = by_create objects name object (reserve_step objects.table name).0
   by_move objects (Remove id) = by_one objects.table (call.Remove id)
   by_move objects (Changes changes) = by_changes objects changes
 

@@ -121,7 +121,7 @@ module _ {T W : Type 0} where
     outcome_moves wait (Named name does) fits =
         of_named (λ s. IsMove objects s.1) objects (carried_out objects task now does) (name_fault name) (λ by. stays objects) (outcome_moves wait does fits)
     outcome_moves wait Go fits = stays objects
-    outcome_moves wait (Make name object) fits = record { move = MakeMove name object; may = tt; is = refl }
+    outcome_moves wait (Make name object) fits = record { move = MakeMove (Some name) object; may = tt; is = refl }
     outcome_moves wait (Remove id) fits = record { move = RemoveMove id; may = tt; is = refl }
     outcome_moves wait (Leave id) fits = record { move = RemoveMove id; may = tt; is = refl }
     outcome_moves wait (Hold id) fits = changes objects (HoldChange id) tt
@@ -145,7 +145,7 @@ module _ {T W : Type 0} where
         of_named (Leaves is_refusal objects) objects (carried_out objects task now does) (name_fault name) (λ by. same) (outcome_keeps does)
     outcome_keeps Go = same
     outcome_keeps (Leave id) = fails refl
-    outcome_keeps (Make name object) = create_keeps objects name object
+    outcome_keeps (Make name object) = create_keeps objects (Some name) object
     outcome_keeps (Remove id) = delete_keeps objects id
     outcome_keeps (Hold id) = hold_keeps objects id
     outcome_keeps (Release id) = release_keeps objects id
@@ -168,7 +168,7 @@ module _ {T W : Type 0} where
         of_named (Steps objects task wait) objects (carried_out objects task now does) (name_fault name) (λ by. goes refl) (outcome_waits wait does fits)
     outcome_waits wait Go fits = goes refl
     outcome_waits wait (Leave id) fits = goes refl
-    outcome_waits wait (Make name object) fits = create_goes objects name object
+    outcome_waits wait (Make name object) fits = create_goes objects (Some name) object
     outcome_waits wait (Remove id) fits = delete_goes objects id
     outcome_waits wait (Hold id) fits = hold_goes objects id
     outcome_waits wait (Release id) fits = release_goes objects id

@@ -144,12 +144,12 @@ module _ {T : Type 0} (table : TableState T) where
       let same : new ≡ a = cc in ap (λ (x : Active T). x.holds) (sym same)
 
 module _ {T W : Type 0} (objects : ObjectsState T W) (counted : IsCounted objects) where
-  create_counted : (name : List ℕ) (object : T) (r : Result Reserved ReserveFault) → (reserve_step objects.table (Some name)).0 ≡ r → IsCounted (created objects object r (reserve_step objects.table (Some name)).1).1
+  create_counted : (name : Option (List ℕ)) (object : T) (r : Result Reserved ReserveFault) → (reserve_step objects.table name).0 ≡ r → IsCounted (created objects object r (reserve_step objects.table name).1).1
   create_counted name object (Err fault) is = counted
   create_counted name object (Ok reserved) is =
-      let between = (reserve_step objects.table (Some name)).1 in
-      let actives = reserve_active objects.table (Some name) in
-      let inactive = issued_inactive objects.table (Some name) reserved is in
+      let between = (reserve_step objects.table name).1 in
+      let actives = reserve_active objects.table name in
+      let inactive = issued_inactive objects.table name reserved is in
       reheld_counted objects (finalize_step between reserved.id (Some object)) counted
       (create_grows objects name object (Ok reserved))
       (λ id a now. elim (cases_eq id reserved.id) [
@@ -197,7 +197,7 @@ module _ {T W : Type 0} where
       changes_counted (changed objects change) changes (change_counted objects counted change may.0) may.1
 
   move_counted : (objects : ObjectsState T W) (move : Move T W) → IsCounted objects → MayMove objects move → IsCounted (moved objects move)
-  move_counted objects (Create name object) counted may = create_counted objects counted name object (reserve_step objects.table (Some name)).0 refl
+  move_counted objects (Create name object) counted may = create_counted objects counted name object (reserve_step objects.table name).0 refl
   move_counted objects (Remove id) counted may = remove_counted objects counted id (active_at objects.table id) refl
   move_counted objects (Changes changes) counted may = changes_counted objects changes counted may
 

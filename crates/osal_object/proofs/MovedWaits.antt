@@ -60,6 +60,6 @@ module _ {T W : Type 0} (task : ℕ) where
   -- a task has at most one open wait after a move where it had at most one before
   pub once_moved : (objects : ObjectsState T W) (move : Move T W) → WaitsOnce objects → WaitsOnce (moved objects move)
   once_moved objects (Create name object) once =
-      once_created objects once object (reserve_step objects.table (Some name)).0 (reserve_step objects.table (Some name)).1
+      once_created objects once object (reserve_step objects.table name).0 (reserve_step objects.table name).1
   once_moved objects (Remove id) once = once
   once_moved objects (Changes changes) once = once_after objects changes once

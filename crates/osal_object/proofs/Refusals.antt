@@ -53,9 +53,9 @@ module _ {T W : Type 0} (objects : ObjectsState T W) where
   created_keeps object (Ok reserved) table = fails refl
 
   -- a create
-  pub create_keeps : (name : List ℕ) (object : T) → Keeps (create_step objects name object)
+  pub create_keeps : (name : Option (List ℕ)) (object : T) → Keeps (create_step objects name object)
   create_keeps name object =
-      created_keeps object (reserve_step objects.table (Some name)).0 (reserve_step objects.table (Some name)).1
+      created_keeps object (reserve_step objects.table name).0 (reserve_step objects.table name).1
 
   removal_keeps : (id : ℕ) (r : Result T IdFault) → Keeps (answered (take_out objects.table id r).0, with_table objects (take_out objects.table id r).1)
   removal_keeps id (Err fault) = same

@@ -120,21 +120,21 @@ module _ {T W : Type 0} (objects : ObjectsState T W) where
   end_same task (Some wait) = releases_same objects.table wait.on
 
   -- a create leaves each object that is there
-  pub create_keeps : (name : List ℕ) (object : T) (r : Result Reserved ReserveFault) → (reserve_step objects.table (Some name)).0 ≡ r → (q : ℕ) → is_some (active_at objects.table q) ≡ true → object_at (created objects object r (reserve_step objects.table (Some name)).1).1.table q ≡ object_at objects.table q
+  pub create_keeps : (name : Option (List ℕ)) (object : T) (r : Result Reserved ReserveFault) → (reserve_step objects.table name).0 ≡ r → (q : ℕ) → is_some (active_at objects.table q) ≡ true → object_at (created objects object r (reserve_step objects.table name).1).1.table q ≡ object_at objects.table q
   create_keeps name object (Err fault) is q some = refl
   create_keeps name object (Ok reserved) is q some =
-      let table = (reserve_step objects.table (Some name)).1 in
+      let table = (reserve_step objects.table name).1 in
       elim (cases_eq q reserved.id) [
         | inl same ↦
-            absurd (both_ways _ (ap (λ k. is_some (active_at objects.table k)) same ∙ issued_inactive objects.table (Some name) reserved is) some)
+            absurd (both_ways _ (ap (λ k. is_some (active_at objects.table k)) same ∙ issued_inactive objects.table name reserved is) some)
         | inr ne ↦
             ap object_of (settle_elsewhere table reserved.id (map.get table.reserved reserved.id) object q ne)
-            ∙ ap (λ m. object_of (map.get m q)) (reserve_active objects.table (Some name))
+            ∙ ap (λ m. object_of (map.get m q)) (reserve_active objects.table name)
       ]
 
   -- a create puts its object under the identifier that it gives
-  pub created_here : (name : List ℕ) (object : T) (reserved : Reserved) → (reserve_step objects.table (Some name)).0 ≡ Ok reserved → object_at (finalize_step (reserve_step objects.table (Some name)).1 reserved.id (Some object)) reserved.id ≡ Some object
+  pub created_here : (name : Option (List ℕ)) (object : T) (reserved : Reserved) → (reserve_step objects.table name).0 ≡ Ok reserved → object_at (finalize_step (reserve_step objects.table name).1 reserved.id (Some object)) reserved.id ≡ Some object
   created_here name object reserved is =
-      let table = (reserve_step objects.table (Some name)).1 in
+      let table = (reserve_step objects.table name).1 in
       settled_here table reserved.id (map.get table.reserved reserved.id) reserved.name object
-      (reserved_here objects.table (Some name) reserved is)
+      (reserved_here objects.table name reserved is)

@@ -87,9 +87,9 @@ module _ {T W : Type 0} (objects : ObjectsState T W) where
     created_goes object (Ok reserved) table = goes refl
 
     -- a create
-    pub create_goes : (name : List ℕ) (object : T) → Steps task wait (create_step objects name object)
+    pub create_goes : (name : Option (List ℕ)) (object : T) → Steps task wait (create_step objects name object)
     create_goes name object =
-        created_goes object (reserve_step objects.table (Some name)).0 (reserve_step objects.table (Some name)).1
+        created_goes object (reserve_step objects.table name).0 (reserve_step objects.table name).1
 
     -- a delete
     pub delete_goes : (id : ℕ) → Steps task wait (delete_step objects id)

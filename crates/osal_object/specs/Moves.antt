@@ -1,5 +1,5 @@
 -- What the calls of a part do to its objects and waits: each is one of these moves.
-use Rattle.std.specs.Prelude.{◌≡◌, ◌==◌, ℕ, List, [], ◌∷◌, Bool, true, false, is_some}
+use Rattle.std.specs.Prelude.{◌≡◌, ◌==◌, ℕ, List, [], ◌∷◌, Bool, true, false, Option, is_some}
 use Rattle.std.specs.List.{list_any}
 use Rattle.osal_object.specs.declared.waits.WaitRecord.{WaitRecord}
 use Rattle.osal_idtable.specs.Table.{TableState, active_at}
@@ -17,7 +17,7 @@ pub data Change (T W : Type 0) : Type 0 where
 
 -- what one call does: it makes an object, removes one, or makes some changes
 pub data Move (T W : Type 0) : Type 0 where
-  Create : List ℕ → T → Move T W
+  Create : Option (List ℕ) → T → Move T W
   Remove : ℕ → Move T W
   Changes : List (Change T W) → Move T W
 

@@ -49,10 +49,10 @@ module _ {T W : Type 0} where
   created objects object (Ok reserved) table =
       (gives reserved.id, with_table objects (finalize_step table reserved.id (Some object)))
 
-  -- a create under a valid name: an identifier is reserved and made active in one step
-  abbrev pub create_step : ObjectsState T W → List ℕ → T → Replied × ObjectsState T W
+  -- a create under a valid name, or under none: an identifier is reserved and made active in one step
+  abbrev pub create_step : ObjectsState T W → Option (List ℕ) → T → Replied × ObjectsState T W
   create_step objects name object =
-      created objects object (reserve_step objects.table (Some name)).0 (reserve_step objects.table (Some name)).1
+      created objects object (reserve_step objects.table name).0 (reserve_step objects.table name).1
 
   -- a delete: the object is removed, unless it is not active or somebody holds it
   abbrev pub delete_step : ObjectsState T W → ℕ → Replied × ObjectsState T W

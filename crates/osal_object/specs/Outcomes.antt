@@ -81,7 +81,7 @@ module _ {T W : Type 0} where
   carried_out objects task now (Give number bytes writes) = (gives_bytes number bytes, written objects writes)
   carried_out objects task now Go = (goes_on, objects)
   carried_out objects task now (Find name) = (find_reply objects name, objects)
-  carried_out objects task now (Make name object) = create_step objects name object
+  carried_out objects task now (Make name object) = create_step objects (Some name) object
   carried_out objects task now (Remove id) = delete_step objects id
   carried_out objects task now (Leave id) = (deleted, (delete_step objects id).1)
   carried_out objects task now (Hold id) = hold_call_step objects id

@@ -1,5 +1,5 @@
 //! A table of objects beside the waits that stand on them.
-ghost use Rattle.std.specs.Prelude.{◌≡◌, [], IfOk, IsTrue, is_some, option_copied, MatchResult, Ok, Err};
+ghost use Rattle.std.specs.Prelude.{◌≡◌, [], IfOk, IsTrue, is_some, option_copied, MatchResult, Some, None, Ok, Err};
 ghost use Rattle.osal_base.specs.Identifier.{type_number};
 ghost use Rattle.osal_base.specs.Limits.{IsCapacity};
 ghost use Rattle.osal_base.specs.Reply.{replied};
@@ -169,9 +169,22 @@ impl<T, W> Objects<T, W> {
 impl<T: Drop, W> Objects<T, W> {
     /// Makes the object under a fresh identifier, or answers why it can't be had. It takes no memory.
     pub fn create(&mut self, name: Name, object: T) -> Ack
+        ensures { (replied result [], self.new) ≡ create_step self.old (Some name) object }
+    {
+        self.create_under(Some(name), object)
+    }
+
+    /// Does what `create` does, for an object without a name.
+    pub fn create_unnamed(&mut self, object: T) -> Ack
+        ensures { (replied result [], self.new) ≡ create_step self.old None object }
+    {
+        self.create_under(None, object)
+    }
+
+    fn create_under(&mut self, name: Option<Name>, object: T) -> Ack
         ensures { (replied result [], self.new) ≡ create_step self.old name object }
     {
-        match self.table.reserve(Some(name)) {
+        match self.table.reserve(name) {
             Ok(token) => {
                 let id = self.table.finalize(token, Some(object));
                 Ack::gives(u64::from(id.raw()))

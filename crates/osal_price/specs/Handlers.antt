@@ -42,4 +42,5 @@ needs_task other = false
 abbrev pub may_wait : ScriptCall → Bool
 may_wait (script.Wait called id wait) = not (is_check wait)
 may_wait (script.QueueGet id n wait) = not (is_check wait)
+may_wait (script.Read id n wait) = not (is_check wait)
 may_wait other = false

@@ -18,8 +18,8 @@ pub record Prices : Type 0 where
   pub body : ℕ → ℕ
   pub tick : ℕ
 
--- what a call line costs beside its checkpoint and its call: its wait, each 64 bytes of a payload or of the room for a
--- message, the entries beside a task's scripts and its body, the handlers that a tick runs
+-- what a call line costs beside its checkpoint and its call: its wait, each 64 bytes of a payload or of the room for
+-- bytes, the entries beside a task's scripts and its body, the handlers that a tick runs
 abbrev pub more_cost : Prices → ScriptCall → ℕ
 more_cost prices (script.Object called id) = wait_cost (timeout_of (object_call called 0))
 more_cost prices (script.Wait called id wait) = wait_cost wait
@@ -28,6 +28,8 @@ more_cost prices (script.TaskCreate register name body stack priority) = 8 + pri
 more_cost prices (script.TaskDelay ms) = wait_cost (timeout.Ms ms)
 more_cost prices (script.QueuePut id payload) = length payload / 64
 more_cost prices (script.QueueGet id n wait) = wait_cost wait + n / 64
+more_cost prices (script.Read id n wait) = wait_cost wait + n / 64
+more_cost prices (script.Write id payload) = length payload / 64
 more_cost prices other = 0
 
 -- the cost of a call line

@@ -26,11 +26,18 @@ pub fn needs_task(call: CallWord) -> bool
         CallWord::Number(word) => matches!(word, NumberWord::TimebaseTick),
         CallWord::Name(_)
         | CallWord::Value(_)
+        | CallWord::Path(_)
+        | CallWord::Paths(_)
         | CallWord::QueueCreate
         | CallWord::QueuePut
         | CallWord::QueueGet
         | CallWord::TimerAdd
-        | CallWord::TimerSet => false,
+        | CallWord::TimerSet
+        | CallWord::Mkfs
+        | CallWord::Open
+        | CallWord::Read
+        | CallWord::Write
+        | CallWord::Lseek => false,
     }
 }
 
@@ -46,7 +53,9 @@ pub fn may_wait(call: &ScriptCall) -> bool
     ensures { result ≡ handlers.may_wait call.now }
 {
     match call {
-        ScriptCall::Wait { wait, .. } | ScriptCall::QueueGet { wait, .. } => !wait.is_check(),
+        ScriptCall::Wait { wait, .. }
+        | ScriptCall::QueueGet { wait, .. }
+        | ScriptCall::Read { wait, .. } => !wait.is_check(),
         _ => false,
     }
 }

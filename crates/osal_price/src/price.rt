@@ -59,15 +59,24 @@ fn more_cost(prices: &Prices, call: &ScriptCall) -> u64
         } => prices.tick,
         ScriptCall::TaskCreate { body, .. } => prices.body(*body).saturating_add(8),
         ScriptCall::TaskDelay { ms } => wait_cost(Timeout::Ms(*ms)),
-        ScriptCall::QueuePut { payload, .. } => payload.as_slice().len() as u64 / 64,
-        ScriptCall::QueueGet { n, wait, .. } => wait_cost(*wait) + u64::from(*n / 64),
+        ScriptCall::QueuePut { payload, .. } | ScriptCall::Write { payload, .. } => {
+            payload.as_slice().len() as u64 / 64
+        }
+        ScriptCall::QueueGet { n, wait, .. } | ScriptCall::Read { n, wait, .. } => {
+            wait_cost(*wait) + u64::from(*n / 64)
+        }
         ScriptCall::Name { .. }
         | ScriptCall::Value { .. }
         | ScriptCall::Number { .. }
+        | ScriptCall::Path { .. }
+        | ScriptCall::Paths { .. }
         | ScriptCall::TaskExit
         | ScriptCall::QueueCreate { .. }
         | ScriptCall::TimerAdd { .. }
-        | ScriptCall::TimerSet { .. } => 0,
+        | ScriptCall::TimerSet { .. }
+        | ScriptCall::Mkfs { .. }
+        | ScriptCall::Open { .. }
+        | ScriptCall::Lseek { .. } => 0,
     }
 }
 

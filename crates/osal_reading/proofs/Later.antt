@@ -1,5 +1,5 @@
 -- Each body of a text names later bodies alone, each handler is bare, and there are at most 64 bodies.
-use Rattle.std.proofs.Common.{◌≡◌, ◌≤◌, ◌+◌, ◌-◌, ◌^◌, ◌==◌, ◌||◌, ◌&&◌, ℕ, zero, suc, List, [], ◌∷◌, ◌++◌, true, false, Option, Some, None, Result, Ok, Err, length, take, ltb, leb, sym, subst, refl, arith}
+use Rattle.std.proofs.Common.{◌≡◌, ◌≤◌, ◌+◌, ◌^◌, ◌==◌, ◌||◌, ◌&&◌, ℕ, suc, List, [], ◌∷◌, ◌++◌, true, false, Option, Some, None, Result, Ok, Err, length, ltb, leb, sym, subst, refl, arith}
 use Rattle.std.specs.List.{AllByRecursion, list_all}
 use Rattle.std.proofs.lemmas.Bool.{cond_both, leb-false}
 use Rattle.std.proofs.lemmas.List.{length_push}
@@ -26,17 +26,12 @@ use Rattle.osal_script.specs.declared.item.Item.TheVariants as item
 use Rattle.osal_reading.specs.declared.fault.FaultKind.{FaultKind}
 use Rattle.osal_script.specs.App.{ScriptBody, ItemNames, NamesLaterFrom, ItemIsBare, HandlerIsBare}
 use Rattle.osal_reading.specs.Draft.{OpenBody, Reading, one_of, begun}
-use Rattle.osal_reading.specs.Blocks.{is_taken, with_body, begin_body, read_body, begin_repeat, repeat_in, read_repeat, ends_with_repeat, closed, finished, read_end}
+use Rattle.osal_reading.specs.Blocks.{is_taken, with_body, begin_body, read_body, begin_repeat, repeat_in, read_repeat, finished, read_end}
 use Rattle.osal_reading.specs.Reading.{with_line, join_line, joined, body_after, read_call, read_by_word, is_comment, is_header, read_words, read_line}
 
 all_push : (P : Item → Type 0) (items : List Item) (last : Item) → AllByRecursion P items → P last → AllByRecursion P (items ++ last ∷ [])
 all_push P [] last all one = (one, tt)
 all_push P (first ∷ items) last all one = (all.0, all_push P items last all.1 one)
-
-all_take : (P : Item → Type 0) (n : ℕ) (items : List Item) → AllByRecursion P items → AllByRecursion P (take n items)
-all_take P zero items all = tt
-all_take P (suc n) [] all = tt
-all_take P (suc n) (first ∷ items) all = (all.0, all_take P n items all.1)
 
 -- a call of a body of this number and kind names later bodies below another number, and in a handler it is bare
 abbrev CallFits : ℕ → ℕ → BodyKind → ScriptCall → Type 0
@@ -105,10 +100,6 @@ begin_repeat_fits number total body (Some times) all =
     cond_both (ltb times 1 || ltb 100000 times || leb 4 body.repeats || leb 4096 body.count) _ _ (BodyFits number total) (λ e. tt) (λ e.
     all_push (ItemFits number total body.kind) body.items (item.Repeat times) all (tt, λ is. tt))
 
-closed_fits : (number total : ℕ) (runs : BodyKind) (items : List Item) → ItemsFit number total runs items → ItemsFit number total runs (closed items)
-closed_fits number total runs items all =
-    cond_both (ends_with_repeat items) _ _ (ItemsFit number total runs) (λ e. all_take (ItemFits number total runs) (length items - 1) items all) (λ e. all_push (ItemFits number total runs) items item.End all (tt, λ is. tt))
-
 bodies_push : (number total : ℕ) (bodies : List ScriptBody) (last : ScriptBody) → BodiesFit number total bodies → ItemsFit (number + length bodies) total last.kind last.items → BodiesFit number total (bodies ++ last ∷ [])
 bodies_push number total [] last done all =
     let same : number + 0 ≡ number = omega arith in
@@ -155,7 +146,7 @@ end_fits total reading (Some body) [] few done all =
     let number = length reading.bodies in
     let first : 0 + number ≡ number = omega arith in
     let here = subst (λ n. ItemsFit n total body.kind body.items) (sym first) all in
-    cond_both (ltb 0 body.repeats) _ _ (FitsBelow total) (λ e. record { few = few; done = done; current = closed_fits number total body.kind body.items all }) (λ e. record {
+    cond_both (ltb 0 body.repeats) _ _ (FitsBelow total) (λ e. record { few = few; done = done; current = all_push (ItemFits number total body.kind) body.items item.End all (tt, λ is. tt) }) (λ e. record {
       few = omega (arith, length_push reading.bodies (finished body));
       done = bodies_push 0 total reading.bodies (finished body) done here;
       current = tt;

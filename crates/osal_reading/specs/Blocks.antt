@@ -1,12 +1,11 @@
 -- The lines that begin and end bodies and repeats.
-use Rattle.std.specs.Prelude.{◌^◌, ◌+◌, ◌-◌, ◌||◌, ◌&&◌, ◌==◌, ◌++◌, List, [], ◌∷◌, ℕ, Bool, true, false, Option, Some, None, Result, Ok, Err, length, take, slice_get, nat_lt, nat_le, if◌then◌else◌}
+use Rattle.std.specs.Prelude.{◌^◌, ◌+◌, ◌-◌, ◌||◌, ◌&&◌, ◌==◌, ◌++◌, List, [], ◌∷◌, ℕ, Bool, Option, Some, None, Result, Ok, Err, length, nat_lt, nat_le, if◌then◌else◌}
 use Rattle.std.specs.List.{list_any}
 use Rattle.std.specs.Str.{bytes_eq}
 use Rattle.osal_line.specs.declared.kind.BodyKind.{BodyKind}
 use Rattle.osal_line.specs.Values.{is_body_name, number_below}
 use Rattle.osal_line.specs.Registers.{no_registers}
 use Rattle.osal_price.specs.Handlers.{is_handler}
-use Rattle.osal_script.specs.declared.item.Item.{Item}
 use Rattle.osal_script.specs.declared.item.Item.TheVariants as item
 use Rattle.osal_reading.specs.declared.fault.FaultKind.{FaultKind}
 use Rattle.osal_reading.specs.declared.fault.FaultKind.TheVariants as fault
@@ -65,28 +64,9 @@ read_repeat reading None words = Err fault.Place
 read_repeat reading (Some body) words =
     if is_handler body.kind then Err fault.Place else repeat_in reading body words
 
--- whether an item begins a repeat
-abbrev pub is_repeat : Item → Bool
-is_repeat (item.Repeat count) = true
-is_repeat (item.Call line) = false
-is_repeat item.End = false
-
--- whether a last item is there and begins a repeat
-abbrev pub is_bare : Option Item → Bool
-is_bare None = false
-is_bare (Some last) = is_repeat last
-
--- whether a repeat has just begun, so that nothing stands in it
-abbrev pub ends_with_repeat : List Item → Bool
-ends_with_repeat items = is_bare (slice_get items (length items - 1))
-
--- the items at the end of a repeat: one with nothing in it does nothing, and is left out
-abbrev pub closed : List Item → List Item
-closed items = if ends_with_repeat items then take (length items - 1) items else items ++ item.End ∷ []
-
--- the innermost repeat is done
+-- the innermost repeat is done, and its end is an item of its body
 abbrev pub end_repeat : OpenBody → OpenBody
-end_repeat body = record body { items = closed body.items; repeats = body.repeats - 1 }
+end_repeat body = record body { items = body.items ++ item.End ∷ []; repeats = body.repeats - 1 }
 
 -- a body that is done
 abbrev pub finished : OpenBody → ScriptBody

@@ -5,8 +5,8 @@ use Rattle.osal_line.specs.Registers.{Registers}
 use Rattle.osal_script.specs.declared.item.Item.{Item}
 use Rattle.osal_script.specs.App.{ScriptBody}
 
--- a body whose end is still to come: what runs it, its items, how many they are with those of repeats that are left out, and how
--- many repeats are open
+-- a body whose end is still to come: what runs it, its items, how many call lines and repeats they are, and how many
+-- repeats are open
 pub record OpenBody : Type 0 where
   pub name : List ℕ
   pub kind : BodyKind

@@ -166,7 +166,7 @@ pub fn read_end(draft: Draft, words: &[&[u8]]) -> Result<Draft, Stop>
     })
 }
 
-/// The innermost repeat is closed; it is left out where nothing stands in it.
+/// The innermost repeat is done, and its end is an item of its body.
 fn end_repeat(body: DraftBody) -> Result<DraftBody, OutOfMemory>
     requires { 0 < body.repeats }
     ensures { IfOk result (λ after. after ≡ blocks.end_repeat body) }
@@ -174,12 +174,12 @@ fn end_repeat(body: DraftBody) -> Result<DraftBody, OutOfMemory>
     let DraftBody {
         name,
         kind,
-        items,
+        mut items,
         count,
         repeats,
         registers,
     } = body;
-    let items = closed(items)?;
+    items.push(Item::End)?;
     Ok(DraftBody {
         name,
         kind,
@@ -188,36 +188,6 @@ fn end_repeat(body: DraftBody) -> Result<DraftBody, OutOfMemory>
         repeats: repeats - 1,
         registers,
     })
-}
-
-/// The items at the end of a repeat.
-fn closed(mut items: Vec<Item>) -> Result<Vec<Item>, OutOfMemory>
-    ensures { IfOk result (λ after. after.items ≡ blocks.closed items.items) }
-{
-    if ends_with_repeat(items.as_slice()) {
-        items.pop();
-    } else {
-        items.push(Item::End)?;
-    }
-    Ok(items)
-}
-
-fn ends_with_repeat(items: &[Item]) -> bool
-    ensures { result ≡ blocks.ends_with_repeat items.now }
-{
-    match items.last() {
-        Some(item) => is_repeat(item),
-        None => false,
-    }
-}
-
-fn is_repeat(item: &Item) -> bool
-    ensures { result ≡ blocks.is_repeat item.now }
-{
-    match item {
-        Item::Repeat { .. } => true,
-        Item::Call(_) | Item::End => false,
-    }
 }
 
 fn finished(body: DraftBody) -> Body

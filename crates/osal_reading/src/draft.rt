@@ -14,7 +14,7 @@ pub struct DraftBody {
     pub name: Name,
     pub kind: BodyKind,
     pub items: Vec<Item>,
-    /// How many items it has, with those of repeats that are left out.
+    /// How many call lines and repeats it has.
     pub count: u32,
     /// How many repeats are open.
     pub repeats: u32,

@@ -1,5 +1,5 @@
 -- The cases of a segment: the lines with an expectation that were answered, and whether they pass.
-use Rattle.std.specs.Prelude.{◌==◌, ◌&&◌, ◌+◌, ◌^◌, ◌++◌, List, [], ◌∷◌, ℕ, Bool, true, false, Option, Some, None, codes, nat_lt, is_some, if◌then◌else◌}
+use Rattle.std.specs.Prelude.{◌==◌, ◌&&◌, ◌+◌, ◌^◌, ◌++◌, List, [], ◌∷◌, ℕ, Bool, true, false, Option, Some, None, pos, codes, nat_lt, is_some, if◌then◌else◌}
 use Rattle.std.specs.Fmt.{decimal}
 use Rattle.std.specs.Ordering.{int_eq}
 use Rattle.std.specs.Str.{bytes_eq}
@@ -10,6 +10,7 @@ use Rattle.osal_base.specs.Reply.{Replied, reply_of, is_waits}
 use Rattle.osal_call.specs.declared.call.Call.{Call}
 use Rattle.osal_call.specs.declared.call.Entry.{Entry}
 use Rattle.osal_line.specs.declared.line.ScriptCall.{ScriptCall}
+use Rattle.osal_line.specs.declared.line.ScriptCall.TheVariants as script
 use Rattle.osal_line.specs.declared.line.Line.{Line}
 use Rattle.osal_line.specs.declared.expectation.Expect.{Expect}
 use Rattle.osal_line.specs.declared.expectation.Value.{Value}
@@ -29,6 +30,22 @@ gives_id call = is_some (register_of call)
 abbrev pub number_text : ScriptCall → ℕ → List ℕ
 number_text call number =
     if gives_id call && nat_lt number (2 ^ 32) then id_text number else decimal number
+
+-- whether the code of a call's success is a count or a place, and no status
+abbrev pub counts : ScriptCall → Bool
+counts (script.Read id n wait) = true
+counts (script.Write id payload) = true
+counts (script.Lseek id offset whence) = true
+counts other = false
+
+-- a code as a call's line spells it
+abbrev pub code_in : ScriptCall → ℤ → List ℕ
+code_in call code = if counts call && int_eq code (pos 0) then codes "0" else code_text code
+
+-- an answer as a call's line spells it
+abbrev pub answer_in : ScriptCall → Answer → List ℕ
+answer_in call (answer.Code code) = code_in call code
+answer_in call other = answer_text other
 
 -- a line with its expectation, and the reply that it got
 pub record Case : Type 0 where
@@ -74,13 +91,13 @@ abbrev pub case_wanted : Case → List ℕ
 case_wanted case =
     if passes case then []
     else codes " expected "
-    ++ (code_text case.expect.code ++ wanted_value case.line.call case.expect.value)
+    ++ (code_in case.line.call case.expect.code ++ wanted_value case.line.call case.expect.value)
 
 -- the line of a case, with its number in its segment
 unfoldable pub case_text : ℕ → Case → List ℕ
 case_text number case =
     case_mark case ++ (decimal number ++ (codes " line " ++ (decimal case.line.number
-    ++ (32 ∷ [] ++ (call_name case.line.call ++ (32 ∷ [] ++ (answer_text case.reply.answer
+    ++ (32 ∷ [] ++ (call_name case.line.call ++ (32 ∷ [] ++ (answer_in case.line.call case.reply.answer
     ++ (got_value case.line.call case.expect.value case.reply
     ++ (case_wanted case ++ 10 ∷ [])))))))))
 

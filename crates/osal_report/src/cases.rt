@@ -2,9 +2,8 @@
 ghost use Rattle.std.specs.Prelude.{◌≡◌, ◌++◌, IfOk, OnOk, [], ◌∷◌, codes, if◌then◌else◌};
 ghost use Rattle.std.specs.Fmt.{decimal};
 ghost use Rattle.osal_line.specs.Calls.{call_name as name_of_call};
-ghost use Rattle.osal_report.specs.Spelling.{code_text};
 ghost use Rattle.osal_base.specs.Reply.{reply_of};
-ghost use Rattle.osal_report.specs.Cases.{gives_id as gives, number_text, is_code as is_code_of, is_value as is_value_of, passes as passes_case, got_value, wanted_value, case_text};
+ghost use Rattle.osal_report.specs.Cases.{counts as does_count, code_in, answer_in, gives_id as gives, number_text, is_code as is_code_of, is_value as is_value_of, passes as passes_case, got_value, wanted_value, case_text};
 
 use crate::spelling::{push_answer, push_bytes, push_code, push_decimal, push_id, push_quoted};
 use osal_base::{Answer, OutOfMemory, Reply};
@@ -16,6 +15,47 @@ fn gives_id(call: &ScriptCall) -> bool
     ensures { result ≡ gives call.now }
 {
     call.register().is_some()
+}
+
+/// Whether the code of a call's success is a count or a place.
+fn counts(call: &ScriptCall) -> bool
+    ensures { result ≡ does_count call.now }
+{
+    matches!(
+        call,
+        ScriptCall::Read { .. } | ScriptCall::Write { .. } | ScriptCall::Lseek { .. }
+    )
+}
+
+/// Appends a code as a call's line spells it: a count of none is `0`.
+fn push_code_in(
+    alloc: Global,
+    out: &mut Vec<u8>,
+    call: &ScriptCall,
+    code: i32,
+) -> Result<(), OutOfMemory>
+    ensures { OnOk result (out.new.items ≡ out.old.items ++ code_in call.now code) }
+{
+    if counts(call) && code == 0 {
+        push_bytes(out, b"0")
+    } else {
+        push_code(alloc, out, code)
+    }
+}
+
+/// Appends an answer as a call's line spells it.
+fn push_answer_in(
+    alloc: Global,
+    out: &mut Vec<u8>,
+    call: &ScriptCall,
+    answer: Answer,
+) -> Result<(), OutOfMemory>
+    ensures { OnOk result (out.new.items ≡ out.old.items ++ answer_in call.now answer) }
+{
+    match answer {
+        Answer::Code(code) => push_code_in(alloc, out, call, code),
+        Answer::Waits | Answer::Go | Answer::Deleted => push_answer(alloc, out, answer),
+    }
 }
 
 fn push_number(
@@ -136,13 +176,13 @@ fn push_missed(
 ) -> Result<(), OutOfMemory>
     ensures { OnOk result (out.new.items ≡ out.old.items ++ (if pass then []
         else codes " expected "
-        ++ (code_text expect.now.code ++ wanted_value line.now.call expect.now.value))) }
+        ++ (code_in line.now.call expect.now.code ++ wanted_value line.now.call expect.now.value))) }
 {
     if pass {
         return Ok(());
     }
     push_bytes(out, b" expected ")?;
-    push_code(alloc, out, expect.code)?;
+    push_code_in(alloc, out, &line.call, expect.code)?;
     push_wanted(alloc, out, &line.call, &expect.value)?;
     Ok(())
 }
@@ -164,7 +204,7 @@ pub(crate) fn push_case(
 {
     let pass = passes(line, expect, reply);
     push_case_head(alloc, out, number, line, pass)?;
-    push_answer(alloc, out, reply.answer)?;
+    push_answer_in(alloc, out, &line.call, reply.answer)?;
     push_got(alloc, out, &line.call, &expect.value, reply)?;
     push_missed(alloc, out, line, expect, pass)?;
     push_bytes(out, b"\n")?;

@@ -85,7 +85,7 @@ module _ (tasks : TaskState) (name : List ℕ) (task : Task) where
       (with_new place (find_passes (is_free_at tasks.objects.table) _ place is) (map.get (reserved_at place).reserved (id_at_place tasks.objects.table place)) (put_here tasks.objects.table.reserved (id_at_place tasks.objects.table place) (Some name)))
 
   -- a creation under a name that is no fault
-  create_creates : IsCreation tasks (in_tasks (create_step tasks.objects name task))
+  create_creates : IsCreation tasks (in_tasks (create_step tasks.objects (Some name) task))
   create_creates =
       cond_both (is_name_taken tasks.objects.table (Some name)) _ _ (λ (r : Result Reserved ReserveFault × TableState Task). IsCreation tasks (in_tasks (created tasks.objects task r.0 r.1)))
       (λ t. Refuses refl refl)

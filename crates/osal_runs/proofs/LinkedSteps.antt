@@ -149,11 +149,11 @@ version1_fits = record {
 pub linked_opening : (app : Application) → IsLinked app (opening version1) []
 linked_opening app = record {
   each = λ task. record {
-    waits = by_number (λ n p. has_wait p task ≡ false) (opening version1) refl refl refl refl refl refl refl (λ n. refl);
+    waits = by_number (λ n p. has_wait p task ≡ false) (opening version1) refl refl refl refl refl refl refl refl (λ n. refl);
     live = λ e. absurd (false≢true e);
     gone = λ e. absurd (false≢true e);
   };
-  once = λ part task. by_number (λ n p. WaitsOnce p task) (opening version1) tt tt tt tt tt tt tt (λ n. tt) part;
+  once = λ part task. by_number (λ n p. WaitsOnce p task) (opening version1) tt tt tt tt tt tt tt tt (λ n. tt) part;
   unheld = λ id active is marked. absurd (no_task id active is);
   typed = refl;
   timers = attached_replayed version1 [] version1_fits;

@@ -14,8 +14,12 @@ use Rattle.osal_call.specs.declared.word.ValueWord.{ValueWord}
 use Rattle.osal_call.specs.declared.word.ValueWord.TheVariants as value_word
 use Rattle.osal_call.specs.declared.word.NumberWord.{NumberWord}
 use Rattle.osal_call.specs.declared.word.NumberWord.TheVariants as number_word
+use Rattle.osal_call.specs.declared.word.PathWord.{PathWord}
+use Rattle.osal_call.specs.declared.word.PathWord.TheVariants as path_word
+use Rattle.osal_call.specs.declared.word.PathsWord.{PathsWord}
+use Rattle.osal_call.specs.declared.word.PathsWord.TheVariants as paths_word
 use Rattle.osal_call.specs.Call.{text_of}
-use Rattle.osal_call.specs.Signature.{timeout_of, object_call, name_call, wait_call, value_call, number_call}
+use Rattle.osal_call.specs.Signature.{timeout_of, object_call, name_call, wait_call, value_call, number_call, path_call, paths_call}
 use Rattle.osal_line.specs.declared.line.ScriptCall.{ScriptCall}
 use Rattle.osal_line.specs.declared.line.ScriptCall.TheVariants as script
 use Rattle.osal_line.specs.Bare.{is_task_creation, is_tick, is_tick_line}
@@ -66,6 +70,14 @@ number_made : (called : NumberWord) (id amount more : ℕ) → IsMade false fals
 number_made number_word.TimebaseTick id amount more = record { line = refl; exit = refl; creation = refl; tick = refl; pays = omega arith }
 number_made number_word.TaskSetPriority id amount more = record { line = refl; exit = refl; creation = refl; tick = refl; pays = omega arith }
 
+path_made : (called : PathWord) (text : Text) → IsMade false false false 0 (path_call called text)
+path_made path_word.Unmount text = record { line = refl; exit = refl; creation = refl; tick = refl; pays = omega arith }
+path_made _ text = record { line = refl; exit = refl; creation = refl; tick = refl; pays = omega arith }
+
+paths_made : (called : PathsWord) (text to : Text) → IsMade false false false 0 (paths_call called text to)
+paths_made paths_word.Mount text to = record { line = refl; exit = refl; creation = refl; tick = refl; pays = omega arith }
+paths_made _ text to = record { line = refl; exit = refl; creation = refl; tick = refl; pays = omega arith }
+
 -- the call of each line
 pub line_made : (prices : Prices) (line : ScriptCall) (registers : List ℕ) → IsMade (is_task_creation (word_of line)) (is_exit_line line) (is_tick_line line) (more_cost prices line) (call_of line registers)
 line_made prices (script.Object called id) registers = object_made called _
@@ -73,4 +85,6 @@ line_made prices (script.Name called register name) registers = name_made called
 line_made prices (script.Wait called id wait) registers = wait_made called _ wait
 line_made prices (script.Value called register name initial) registers = value_made called _ initial
 line_made prices (script.Number called id amount) registers = number_made called _ amount _
+line_made prices (script.Path called path) registers = path_made called _
+line_made prices (script.Paths called path to) registers = paths_made called _ _
 line_made prices _ registers = record { line = refl; exit = refl; creation = refl; tick = refl; pays = omega arith }

@@ -2,6 +2,7 @@ pub mod Lists
 pub mod Nesting
 pub mod Levels
 pub mod Passing
+pub mod Empty
 pub mod Costs
 pub mod Bodies
 pub mod Dearest

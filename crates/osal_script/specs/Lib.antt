@@ -2,6 +2,7 @@ pub use Rattle.osal_call.specs.Call
 pub use Rattle.osal_call.specs.Journal
 pub mod App
 pub mod Nesting
+pub mod Empty
 pub mod Script
 pub mod Handling
 pub mod Cursor

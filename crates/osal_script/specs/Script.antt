@@ -1,5 +1,5 @@
 -- What a script calls: the lines in their order, each behind a checkpoint, and then the exit.
-use Rattle.std.specs.Prelude.{◌≡◌, ◌⊎◌, ◌++◌, ◌&&◌, List, [], ◌∷◌, ℕ, zero, suc, Bool, Option, Some, None, true, false, map, length, take, drop, nat_lt, replicate, slice_get, if◌then◌else◌}
+use Rattle.std.specs.Prelude.{◌≡◌, ◌⊎◌, ◌++◌, ◌&&◌, List, [], ◌∷◌, ℕ, zero, suc, Bool, Option, Some, None, true, false, map, length, drop, nat_lt, replicate, slice_get, if◌then◌else◌}
 use Rattle.osal_base.specs.declared.reply.Answer.{Answer}
 use Rattle.osal_base.specs.declared.reply.Answer.TheVariants as answer
 use Rattle.osal_base.specs.Reply.{Replied, reply_of, is_waits}

@@ -3,7 +3,8 @@ use osal_line::Line;
 
 /// What a body is made of, in the order of its lines.
 ///
-/// A repeat goes on to its end, with at least one call line in it: a repeat without one does nothing and is left out.
+/// A repeat goes on to its end. It may be empty, or have none but empty repeats in it: it stands for no call line
+/// then, and a walk along the lines passes it at once.
 #[derive(Drop)]
 pub enum Item {
     /// A call line.

@@ -1,7 +1,8 @@
 //! A walk along the call lines of a body, with every repeat written out.
-ghost use Rattle.std.specs.Prelude.{◌≡◌, slice_get, option_copied, Some};
+ghost use Rattle.std.specs.Prelude.{◌≡◌, ◌+◌, slice_get, option_copied, drop, Some};
 ghost use Rattle.osal_script.specs.declared.item.Item.TheVariants as item;
 ghost use Rattle.osal_script.specs.App.{first_of_levels, levels_of};
+ghost use Rattle.osal_script.specs.Empty.{empty_end_from};
 ghost use Rattle.osal_script.specs.Nesting.{IsNested};
 ghost use Rattle.osal_script.specs.Walk.{lines_at, first_of, behind_first};
 ghost use Rattle.osal_script.specs.Place.{IsPlace, IsSettled, IsPassed};
@@ -26,6 +27,9 @@ struct Place {
 }
 
 /// The call lines of a body that are still to come.
+///
+/// It enters only repeats in which a call line stands, so the next line is found in a time by the number of items,
+/// however many turns the other repeats have.
 #[derive(Drop)]
 pub(crate) struct Walk<'a> {
     items: &'a [Item],
@@ -110,7 +114,7 @@ fn place_behind(items: &[Item], place: &Place) -> Place
     }
 }
 
-/// The place at the next call line, or behind the last item.
+/// The place at the next call line, or behind the last item. It skips the repeats in which no call line stands.
 fn settled(items: &[Item], mut place: Place) -> Place
     requires { IsPlace items.now place }
     ensures within { IsSettled items.now result }
@@ -118,11 +122,45 @@ fn settled(items: &[Item], mut place: Place) -> Place
 {
     loop {
         match items.get(place.at) {
-            Some(Item::Repeat { count }) => place = entered(items, &place, *count),
+            Some(Item::Repeat { count }) => place = past_head(items, &place, *count),
             Some(Item::End) => place = turned(items, &place),
             Some(Item::Call(_)) | None => return place,
         }
     }
+}
+
+/// The place behind the repeat at a place where no call line stands in it, or else behind its head.
+fn past_head(items: &[Item], place: &Place, count: u32) -> Place
+    requires place_in { IsPlace items.now place.now }
+    requires here { slice_get items.now place.now.at ≡ Some (item.Repeat count) }
+    ensures { IsPassed items.now place.now result }
+{
+    match empty_end(items, place.at + 1) {
+        Some(end) => Place {
+            at: end,
+            depth: place.depth,
+            turns: place.turns,
+        },
+        None => entered(items, place, count),
+    }
+}
+
+/// The place behind the end of the repeat whose items begin at a place, where no call line stands in it.
+fn empty_end(items: &[Item], start: usize) -> Option<usize>
+    ensures { result ≡ empty_end_from start 0 (drop start items.now) }
+{
+    let mut at = start;
+    let mut depth: usize = 0;
+    while at < items.len() {
+        match &items[at] {
+            Item::Call(_) => return None,
+            Item::Repeat { .. } => depth += 1,
+            Item::End if depth == 0 => return Some(at + 1),
+            Item::End => depth -= 1,
+        }
+        at += 1;
+    }
+    None
 }
 
 /// The place behind the head of the repeat at a place.

@@ -26,7 +26,7 @@ fn cost_of(rt: &impl Abort, alloc: Global, lines: &str) -> Result<u64, Fail> {
 }
 
 /// The lines of a body, and what the application costs.
-const COSTS: [(&str, u64); 9] = [
+const COSTS: [(&str, u64); 13] = [
     ("task_create $t \"t\" w 0 1\ntask_delay 0", 26),
     (
         "repeat 2\nrepeat 2\nrepeat 2\ntask_create $t \"t\" w 0 1\nend\nend\ntask_delay 0\nend",
@@ -41,12 +41,28 @@ const COSTS: [(&str, u64); 9] = [
         u64::MAX,
     ),
     (
+        "repeat 100000\nrepeat 100000\nrepeat 100000\nrepeat 100000\nend\nend\nend\nend\ntask_delay 11",
+        7,
+    ),
+    (
         "queue_put $q \"a\"\nqueue_put $q fill 63 0\nqueue_put $q fill 64 0\nqueue_put $q fill 8192 0",
         140,
     ),
     (
         "queue_get $q 63 check\nqueue_get $q 64 pend\nqueue_get $q 128 1\nqueue_get $q 4294967295 check",
         67_108_880,
+    ),
+    (
+        "write $f \"a\"\nwrite $f fill 63 0\nwrite $f fill 64 0\nwrite $f fill 8192 0",
+        140,
+    ),
+    (
+        "read $f 63 check\nread $f 64 pend\nread $f 128 1\nread $f 4294967295 check",
+        67_108_880,
+    ),
+    (
+        "mkfs \"d\" \"l\" 4096\nmount \"d\" \"/m\"\nopen $f \"/m/a\" both rw\nlseek $f -4294967295 end\nclose $f\ncp \"/m/a\" \"/m/b\"\ndir_open $r \"/m\"\ndir_read $r",
+        19,
     ),
     (
         "count_sem_take $c check\ncount_sem_take $c pend\ncount_sem_take $c 7\ncount_sem_give $c",

@@ -135,6 +135,26 @@ fn a_nested_repeat_is_walked_to_its_end(rt: HostRuntime) -> Result<(), Fail> {
     Ok(())
 }
 
+/// Repeats without a call line: four deep before line 11, and around line 15, which is repeated twice.
+const EMPTY_REPEATS: &str =
+    "repeat 100000\nrepeat 100000\nrepeat 100000\nrepeat 100000\nend\nend\nend\nend\ntask_delay 11\nrepeat 2\nrepeat 100000\nend\ntask_delay 15\nrepeat 100000\nrepeat 100000\nend\nrepeat 100000\nend\nend\nend\nrepeat 100000\nend";
+
+#[test]
+fn repeats_without_a_line_are_passed_at_once(rt: HostRuntime) -> Result<(), Fail> {
+    let app = app_of(&rt, rt.alloc(), EMPTY_REPEATS)?;
+    let mut cursor = Cursor::new(&app, app.main());
+    assert!(rt; line_comes(rt.alloc(), &mut cursor, None, 11, Delay(11)));
+    for line in [15, 15] {
+        assert!(rt;
+            line_comes(rt.alloc(), &mut cursor, DONE, line, Delay(line)),
+            "{line}"
+        );
+    }
+    assert!(rt; line_comes(rt.alloc(), &mut cursor, DONE, 0, Exit));
+    assert!(rt; ends(rt.alloc(), &mut cursor, Answer::Code(-1)));
+    Ok(())
+}
+
 #[test]
 fn a_wait_ends_before_the_next_line(rt: HostRuntime) -> Result<(), Fail> {
     let app = app_of(&rt, rt.alloc(), "bin_sem_take $s pend")?;

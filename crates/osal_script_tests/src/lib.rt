@@ -6,4 +6,6 @@ mod costs;
 #[cfg(test)]
 mod cursor;
 #[cfg(test)]
+mod files;
+#[cfg(test)]
 mod texts;

@@ -8,7 +8,7 @@ use std::process::Abort;
 use std::test::Fail;
 
 /// The application that a text is.
-fn app_of(rt: &impl Abort, alloc: Global, text: &[u8]) -> App {
+pub(crate) fn app_of(rt: &impl Abort, alloc: Global, text: &[u8]) -> App {
     assert!(rt; text.len() < 1000000);
     match parse(alloc, text) {
         Ok(app) => app,
@@ -17,7 +17,7 @@ fn app_of(rt: &impl Abort, alloc: Global, text: &[u8]) -> App {
 }
 
 /// Whether a text is an application of so many bodies.
-fn has_bodies(rt: &impl Abort, alloc: Global, text: &[u8], bodies: u32) -> bool {
+pub(crate) fn has_bodies(rt: &impl Abort, alloc: Global, text: &[u8], bodies: u32) -> bool {
     assert!(rt; text.len() < 1000000);
     match parse(alloc, text) {
         Ok(app) => app.bodies() == bodies,
@@ -35,7 +35,7 @@ fn is_refused(rt: &impl Abort, alloc: Global, text: &[u8], line: u32, rule: &str
 }
 
 /// The call line at a place of a body.
-fn line_at(items: &[Item], place: usize) -> Option<&Line> {
+pub(crate) fn line_at(items: &[Item], place: usize) -> Option<&Line> {
     match items.get(place) {
         Some(Item::Call(line)) => Some(line),
         _ => None,
@@ -285,7 +285,7 @@ fn says(alloc: Global, app: &App, wanted: &[u8]) -> Result<bool, Fail> {
 }
 
 /// The first word of each line, with a space behind it.
-fn first_words(alloc: Global, lines: &str) -> Result<Vec<u8>, Fail> {
+pub(crate) fn first_words(alloc: Global, lines: &str) -> Result<Vec<u8>, Fail> {
     let mut words = Vec::new(alloc);
     let mut is_first = true;
     for byte in lines.as_bytes() {
@@ -303,7 +303,7 @@ fn first_words(alloc: Global, lines: &str) -> Result<Vec<u8>, Fail> {
 }
 
 /// The application with these lines in its body.
-fn with_lines(alloc: Global, lines: &str) -> Result<Vec<u8>, Fail> {
+pub(crate) fn with_lines(alloc: Global, lines: &str) -> Result<Vec<u8>, Fail> {
     let mut text = Vec::from_slice(alloc, b"osal-app 1\ntask main\n".as_slice())?;
     text.extend_from_slice(lines.as_bytes())?;
     text.extend_from_slice(b"\nend\n".as_slice())?;
@@ -311,7 +311,12 @@ fn with_lines(alloc: Global, lines: &str) -> Result<Vec<u8>, Fail> {
 }
 
 /// Whether these lines are read as items of those words.
-fn reads_as(rt: &impl Abort, alloc: Global, lines: &str, wanted: &[u8]) -> Result<bool, Fail> {
+pub(crate) fn reads_as(
+    rt: &impl Abort,
+    alloc: Global,
+    lines: &str,
+    wanted: &[u8],
+) -> Result<bool, Fail> {
     let text = with_lines(alloc, lines)?;
     let app = app_of(rt, alloc, text.as_slice());
     says(alloc, &app, wanted)
@@ -339,7 +344,7 @@ fn every_line_is_read(rt: HostRuntime) -> Result<(), Fail> {
     Ok(())
 }
 
-/// Bodies with repeats, and the words of their items: a repeat without a call is left out.
+/// Bodies with repeats, and the words of their items: a repeat without a call is an item too.
 const REPEATS: [(&str, &[u8]); 4] = [
     (
         "hold $a\nrepeat 3\nrelease $a\nrepeat 0x10\nhold $a\nend\nend\nrelease $a",
@@ -349,10 +354,13 @@ const REPEATS: [(&str, &[u8]); 4] = [
         "repeat 1\nrepeat 1\nrepeat 1\nrepeat 100000\nhold $a\nend\nend\nend\nend",
         b"( ( ( ( hold ) ) ) ) ",
     ),
-    ("repeat 5\nend\nhold $a\nrepeat 5\n# nothing\nend", b"hold "),
+    (
+        "repeat 5\nend\nhold $a\nrepeat 5\n# nothing\nend",
+        b"( ) hold ( ) ",
+    ),
     (
         "repeat 2\nrepeat 3\nrepeat 4\nend\nend\nhold $a\nrepeat 5\nend\nend",
-        b"( hold ) ",
+        b"( ( ( ) ) hold ( ) ) ",
     ),
 ];
 
@@ -406,7 +414,7 @@ fn a_payload_is_a_string_or_one_byte_many_times(rt: HostRuntime) -> Result<(), F
 }
 
 /// Whether the one line of a body is refused for its arguments.
-fn is_wrong(rt: &impl Abort, alloc: Global, line: &str) -> Result<bool, Fail> {
+pub(crate) fn is_wrong(rt: &impl Abort, alloc: Global, line: &str) -> Result<bool, Fail> {
     let text = with_lines(alloc, line)?;
     Ok(is_refused(rt, alloc, text.as_slice(), 3, "argument"))
 }
@@ -500,7 +508,7 @@ fn wrong_arguments_of_timebases_and_timers_are_refused(rt: HostRuntime) -> Resul
 }
 
 /// An application with these lines in a handler, from line 5 on.
-fn in_a_handler(alloc: Global, lines: &str) -> Result<Vec<u8>, Fail> {
+pub(crate) fn in_a_handler(alloc: Global, lines: &str) -> Result<Vec<u8>, Fail> {
     let mut text = Vec::from_slice(alloc, b"osal-app 1\ntask main\nend\nhandler h\n".as_slice())?;
     text.extend_from_slice(lines.as_bytes())?;
     text.extend_from_slice(b"\nend\n".as_slice())?;
@@ -508,7 +516,12 @@ fn in_a_handler(alloc: Global, lines: &str) -> Result<Vec<u8>, Fail> {
 }
 
 /// Whether a handler may not have a line, by the rule of that word.
-fn may_not_have(rt: &impl Abort, alloc: Global, line: &str, rule: &str) -> Result<bool, Fail> {
+pub(crate) fn may_not_have(
+    rt: &impl Abort,
+    alloc: Global,
+    line: &str,
+    rule: &str,
+) -> Result<bool, Fail> {
     let text = in_a_handler(alloc, line)?;
     Ok(is_refused(rt, alloc, text.as_slice(), 5, rule))
 }
@@ -663,8 +676,12 @@ const HEADERS: [(&str, u32, &str); 8] = [
     ("# none yet\ntask main\n", 2, "header"),
     ("osal-app 1\nosal-app 1\n", 2, "place"),
     ("osal-app 1\ntask main\nrepeat 1\nend\n", 5, "end"),
-    ("osal-app 1\nmkfs\n", 2, "unbuilt"),
-    ("osal-app 1\ntask main\nread $f 8 pend\n", 3, "unbuilt"),
+    ("osal-app 1\nsocket_open\n", 2, "unbuilt"),
+    (
+        "osal-app 1\ntask main\nsocket_recv $s 8 pend\n",
+        3,
+        "unbuilt",
+    ),
 ];
 
 #[test]
@@ -890,7 +907,7 @@ fn a_body_has_at_most_32_registers(rt: HostRuntime) -> Result<(), Fail> {
     Ok(())
 }
 
-// Repeats that are left out count as items too.
+// Empty repeats count as items too.
 fn items_and_repeats(alloc: Global, repeats: u32) -> Result<Vec<u8>, Fail> {
     let mut text = Vec::from_slice(alloc, b"osal-app 1\ntask main\n".as_slice())?;
     for _ in 0..repeats {

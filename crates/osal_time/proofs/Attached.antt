@@ -107,14 +107,14 @@ module _ (capacity : ℕ) (time : TimeState) (task : ℕ) (now : Moment) (all : 
       after_move new move refl (λ id timebase is. still_own time new id timebase (own id timebase is) (still id))
       (λ id timer is. still_listed time new timer.timebase id refl (lists id timer is))
 
-  timebase_create_keeps : (name : List ℕ) (fault : Option NameFault) → Keeps (in_timebases time (unless fault time.timebases (create_step time.timebases name new_timebase)))
+  timebase_create_keeps : (name : List ℕ) (fault : Option NameFault) → Keeps (in_timebases time (unless fault time.timebases (create_step time.timebases (Some name) new_timebase)))
   timebase_create_keeps name (Some fault) = all
   timebase_create_keeps name None =
-      let made = create_step time.timebases name new_timebase in
+      let made = create_step time.timebases (Some name) new_timebase in
       timebases_keep made.1
       (each_create (HasOwnTimers time) time.timebases name new_timebase own
       (λ id. record { few = omega arith; once = once_none; own = tt }))
-      (λ timebase timer was. still_listed time (record time { timebases = made.1 }) timebase timer (create_keeps time.timebases name new_timebase (reserve_step time.timebases.table (Some name)).0 refl timebase (ap is_some was.there)) was)
+      (λ timebase timer was. still_listed time (record time { timebases = made.1 }) timebase timer (create_keeps time.timebases (Some name) new_timebase (reserve_step time.timebases.table (Some name)).0 refl timebase (ap is_some was.there)) was)
 
   run_keeps : (id usecs : ℕ) (active : Active Timebase) → timebase_at time id ≡ Some active → OnTimebasesKeeps (run_of time.timers.table id usecs active)
   run_keeps id usecs active is =
@@ -189,14 +189,14 @@ module _ (capacity : ℕ) (time : TimeState) (task : ℕ) (now : Moment) (all : 
         timers = (created time.timers timer (Ok reserved) table).1;
       } in
       let still : (timebase other : ℕ) → IsAttached time timebase other → IsAttached new timebase other =
-      λ timebase other was. still_attached time new timebase other (create_keeps time.timers name timer (Ok reserved) issued other (ap is_some was.there)) was in
+      λ timebase other was. still_attached time new timebase other (create_keeps time.timers (Some name) timer (Ok reserved) issued other (ap is_some was.there)) was in
       let fresh : (other : ℕ) → IsAttached time id other → reserved.id ≡ other → ⊥ =
       λ other was same. both_ways (is_some (timer_at time reserved.id)) (issued_inactive time.timers.table (Some name) reserved issued) (ap (λ k. is_some (timer_at time k)) same ∙ ap is_some was.there) in
-      after_move new (Create name timer) (sym (ap (λ r. (created time.timers timer r table).1) issued))
+      after_move new (Create (Some name) timer) (sym (ap (λ r. (created time.timers timer r table).1) issued))
       (each_put (HasOwnTimers new) time.timebases id longer
       (λ other timebase ne there. still_own time new other timebase (own other timebase there) (still other))
       (own_more time new id active.object (all.each id active is) reserved.id room fresh (still id)
-      (attached_at new id reserved.id timer (created_here time.timers name timer reserved issued) refl)))
+      (attached_at new id reserved.id timer (created_here time.timers (Some name) timer reserved issued) refl)))
       (each_made (StandsInList new) time.timers name timer reserved
       (λ other timer there. put_listed time new id active is longer refl timer.timebase other (Contains-append_left active.object.timers (reserved.id ∷ []) other) (listed other timer there))
       (put_lists time new id active is longer refl reserved.id (Contains-push active.object.timers reserved.id)))

@@ -90,7 +90,7 @@ module _ {T : Type 0} (P : ℕ → T → Type 0) where
     each_created name object (Ok reserved) all here = each_made name object reserved all (here reserved.id)
 
     -- a new object
-    pub each_create : (name : List ℕ) (object : T) → Each objects.table.active → ((id : ℕ) → P id object) → Each (create_step objects name object).1.table.active
+    pub each_create : (name : List ℕ) (object : T) → Each objects.table.active → ((id : ℕ) → P id object) → Each (create_step objects (Some name) object).1.table.active
     each_create name object = each_created name object (reserve_step objects.table (Some name)).0
 
     -- a hold

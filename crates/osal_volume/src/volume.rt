@@ -4,6 +4,7 @@ ghost use Rattle.osal_volume.specs.Volume.{fresh, free_blocks, kind_of, content_
 
 mod change;
 mod copies;
+mod faults;
 mod find;
 mod list;
 mod rename;

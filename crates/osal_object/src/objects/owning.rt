@@ -1,5 +1,5 @@
 //! What serves objects that own memory: a look before one is made, and writing to one in its place.
-ghost use Rattle.std.specs.Prelude.{◌≡◌, IfSome, IsTrue, is_some, Some};
+ghost use Rattle.std.specs.Prelude.{◌≡◌, IfSome, IsTrue, is_some, Some, None};
 ghost use Rattle.std.specs.Borrow.{sem};
 ghost use Rattle.osal_idtable.specs.Table.{active_at};
 ghost use Rattle.osal_idtable.specs.Steps.{peeked, reserve_step};
@@ -18,6 +18,13 @@ impl<T, W> Objects<T, W> {
         ensures { result ≡ peeked (reserve_step self.now.table (Some name.now)).0 }
     {
         self.table.peek(Some(name))
+    }
+
+    /// What `create_unnamed` would answer. It looks at each slot once at most.
+    pub fn peek_unnamed(&self) -> Result<OsalId, ReserveFault>
+        ensures { result ≡ peeked (reserve_step self.now.table None).0 }
+    {
+        self.table.peek(None)
     }
 
     /// The object that an active identifier names, for writing in its place.

@@ -45,7 +45,12 @@ impl Volume {
     }
 
     // Why a copy of what is of a kind may not come to stand at a path.
-    fn placing_fault(&self, source: Option<Kind>, same: bool, to: &[Name]) -> Option<VolFault>
+    pub(super) fn placing_fault(
+        &self,
+        source: Option<Kind>,
+        same: bool,
+        to: &[Name],
+    ) -> Option<VolFault>
         ensures { (there : Option Content) → source ≡ kind_of there → result ≡ placing_fault self.now to.now same there }
     {
         let Some(kind) = source else {

@@ -1,0 +1,10 @@
+pub use Rattle.osal_volume.specs.Volume
+pub use Rattle.osal_path.specs.Mounts
+pub mod Opened
+pub mod DeviceLends
+pub mod Files
+pub mod Systems
+pub mod Streams
+pub mod Nodes
+pub mod Directories
+pub mod Held

@@ -1,0 +1,3 @@
+pub use Rattle.osal_file.specs.Files
+pub mod Io
+pub mod Calls
