@@ -47,4 +47,5 @@ said (call.Stat path) = call.Stat (trimmed path)
 said (call.Mkdir path) = call.Mkdir (trimmed path)
 said (call.Rmdir path) = call.Rmdir (trimmed path)
 said (call.DirOpen path) = call.DirOpen (trimmed path)
+said (call.ConsoleWrite payload) = call.ConsoleWrite (trimmed payload)
 said other = other

@@ -25,6 +25,8 @@ use Rattle.osal_call.specs.declared.word.PathWord.{PathWord}
 use Rattle.osal_call.specs.declared.word.PathWord.TheVariants as path_word
 use Rattle.osal_call.specs.declared.word.PathsWord.{PathsWord}
 use Rattle.osal_call.specs.declared.word.PathsWord.TheVariants as paths_word
+use Rattle.osal_call.specs.declared.word.BareWord.{BareWord}
+use Rattle.osal_call.specs.declared.word.BareWord.TheVariants as bare_word
 use Rattle.osal_call.specs.declared.word.CallWord.{CallWord}
 use Rattle.osal_call.specs.declared.word.CallWord.TheVariants as word
 
@@ -196,13 +198,17 @@ signature (call.DirOpen path) = record (plain 7) { takes_memory = true }
 signature (call.DirRead id) = on Directories id
 signature (call.DirRewind id) = on Directories id
 signature (call.DirClose id) = on Directories id
+signature (call.ConsoleWrite payload) = plain 8
+signature call.ConsoleEnable = plain 8
+signature call.ConsoleDisable = plain 8
+signature (call.Drain n) = plain 8
 signature (call.Hold id) = on OfType id
 signature (call.Release id) = on OfType id
 signature (call.WaitEnd part) = record (plain (part_of_wait part)) { role = Ends }
 signature (call.WaitAbandon part) = record (plain (part_of_wait part)) { role = Abandons }
 
 -- the number of the part whose call it is: 0 for tasks, 1 for queues, 2 and 3 for counting and binary semaphores, 4 for
--- mutexes, 5 for condition variables, 6 for time, 7 for files
+-- mutexes, 5 for condition variables, 6 for time, 7 for files, 8 for the console
 abbrev pub part_of : Call → ℕ
 part_of made = (signature made).part
 
@@ -328,6 +334,11 @@ paths_call paths_word.Mount text to = call.Mount text to
 paths_call paths_word.Rename text to = call.Rename text to
 paths_call paths_word.Cp text to = call.Cp text to
 
+-- the call without arguments
+abbrev pub bare_call : BareWord → Call
+bare_call bare_word.ConsoleEnable = call.ConsoleEnable
+bare_call bare_word.ConsoleDisable = call.ConsoleDisable
+
 -- the words of the calls with an identifier alone
 abbrev pub object_text : ObjectWord → List ℕ
 object_text object.TaskDelete = codes "task_delete"
@@ -408,6 +419,11 @@ paths_text paths_word.Mount = codes "mount"
 paths_text paths_word.Rename = codes "rename"
 paths_text paths_word.Cp = codes "cp"
 
+-- the words of the calls without arguments
+abbrev pub bare_text : BareWord → List ℕ
+bare_text bare_word.ConsoleEnable = codes "console_enable"
+bare_text bare_word.ConsoleDisable = codes "console_disable"
+
 -- the word of a call
 abbrev pub word_text : CallWord → List ℕ
 word_text (word.Object called) = object_text called
@@ -417,6 +433,7 @@ word_text (word.Value called) = value_text called
 word_text (word.Number called) = number_text called
 word_text (word.Path called) = path_text called
 word_text (word.Paths called) = paths_text called
+word_text (word.Bare called) = bare_text called
 word_text word.TaskCreate = codes "task_create"
 word_text word.TaskExit = codes "task_exit"
 word_text word.TaskDelay = codes "task_delay"
@@ -430,6 +447,7 @@ word_text word.Open = codes "open"
 word_text word.Read = codes "read"
 word_text word.Write = codes "write"
 word_text word.Lseek = codes "lseek"
+word_text word.ConsoleWrite = codes "console_write"
 
 -- the calls that a line may make
 abbrev pub call_words : List CallWord
@@ -453,8 +471,10 @@ call_words =
     ∷ word.Path path_word.Unmount ∷ word.Path path_word.Rmfs ∷ word.Path path_word.StatVolume
     ∷ word.Path path_word.Remove ∷ word.Path path_word.Stat ∷ word.Path path_word.Mkdir ∷ word.Path path_word.Rmdir
     ∷ word.Paths paths_word.Mount ∷ word.Paths paths_word.Rename ∷ word.Paths paths_word.Cp
+    ∷ word.Bare bare_word.ConsoleEnable ∷ word.Bare bare_word.ConsoleDisable
     ∷ word.TaskCreate ∷ word.TaskExit ∷ word.TaskDelay ∷ word.QueueCreate ∷ word.QueuePut ∷ word.QueueGet
-    ∷ word.TimerAdd ∷ word.TimerSet ∷ word.Mkfs ∷ word.Open ∷ word.Read ∷ word.Write ∷ word.Lseek ∷ []
+    ∷ word.TimerAdd ∷ word.TimerSet ∷ word.Mkfs ∷ word.Open ∷ word.Read ∷ word.Write ∷ word.Lseek
+    ∷ word.ConsoleWrite ∷ []
 
 -- the call that a word names
 abbrev pub call_word : List ℕ → Option CallWord

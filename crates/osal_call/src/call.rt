@@ -1,5 +1,5 @@
 //! The calls of the machine, and the entries that they make.
-ghost use Rattle.std.specs.Prelude.{◌≡◌};
+ghost use Rattle.std.specs.Prelude.{◌≡◌, ◌≤◌};
 ghost use Rattle.osal_call.specs.Call as of_call;
 
 use osal_base::{Access, Bytes, Moment, OpenFlags, OsalId, Reply, Timeout, Whence};
@@ -322,6 +322,18 @@ pub enum Call {
     DirClose {
         id: OsalId,
     },
+    /// `OS_printf` and `OS_ConsoleWrite`, with the bytes as they stand.
+    ConsoleWrite {
+        payload: Bytes,
+    },
+    /// `OS_printf_enable`.
+    ConsoleEnable,
+    /// `OS_printf_disable`.
+    ConsoleDisable,
+    /// Takes at most `n` pending bytes out of the console, the oldest first.
+    Drain {
+        n: u32,
+    },
     /// Holds an object, so that it is not removed.
     Hold {
         id: OsalId,
@@ -353,7 +365,8 @@ pub struct Entry {
 
 /// The number of the part that has the objects of a type; 0 where no part has any.
 fn part_of_type(kind: u32) -> u32
-    ensures { result ≡ of_call.part_of_type kind }
+    ensures value { result ≡ of_call.part_of_type kind }
+    ensures within { result ≤ 8 }
 {
     match kind {
         2 => 1,
@@ -370,18 +383,20 @@ fn part_of_type(kind: u32) -> u32
 
 /// The number of the part that has an identifier's object.
 pub fn part_of_id(id: OsalId) -> u32
-    ensures { result ≡ of_call.part_of_id id }
+    ensures value { result ≡ of_call.part_of_id id }
+    ensures within { result ≤ 8 }
 {
     part_of_type(id.raw() / 65536)
 }
 
 /// The number of the part whose call it is: 0 for tasks, 1 for queues, 2 and 3 for counting and binary semaphores,
-/// 4 for mutexes, 5 for condition variables, 6 for time, 7 for files.
+/// 4 for mutexes, 5 for condition variables, 6 for time, 7 for files, 8 for the console.
 ///
 /// A hold and a release go to the part of the identifier's type, the end of a wait to the part of its number.
 /// What has no part goes to part 0.
 pub fn part_of(call: &Call) -> u32
-    ensures { result ≡ of_call.part_of call.now }
+    ensures value { result ≡ of_call.part_of call.now }
+    ensures within { result ≤ 8 }
 {
     match call {
         Call::TaskCreate { .. }
@@ -456,6 +471,10 @@ pub fn part_of(call: &Call) -> u32
         | Call::DirRead { .. }
         | Call::DirRewind { .. }
         | Call::DirClose { .. } => 7,
+        Call::ConsoleWrite { .. }
+        | Call::ConsoleEnable
+        | Call::ConsoleDisable
+        | Call::Drain { .. } => 8,
         Call::Hold { id } | Call::Release { id } => part_of_id(*id),
         Call::WaitEnd { part } | Call::WaitAbandon { part } => { if 8 < *part { 0 } else { *part } }
     }

@@ -10,5 +10,6 @@ pub use call::{Call, Entry, part_of, part_of_id};
 pub use firing::{FIRING_LENGTH, TIMER_LIMIT, append_firing, handler_at};
 pub use journal::Journal;
 pub use word::{
-    CallWord, NameWord, NumberWord, ObjectWord, PathWord, PathsWord, ValueWord, WaitWord, call_word,
+    BareWord, CallWord, NameWord, NumberWord, ObjectWord, PathWord, PathsWord, ValueWord, WaitWord,
+    call_word,
 };

@@ -103,6 +103,13 @@ pub enum PathsWord {
     Cp,
 }
 
+/// The calls without arguments, but for the exit of a task, which ends its script.
+#[derive(Clone, Copy)]
+pub enum BareWord {
+    ConsoleEnable,
+    ConsoleDisable,
+}
+
 /// The calls that a line may make.
 #[derive(Clone, Copy)]
 pub enum CallWord {
@@ -113,6 +120,7 @@ pub enum CallWord {
     Number(NumberWord),
     Path(PathWord),
     Paths(PathsWord),
+    Bare(BareWord),
     TaskCreate,
     TaskExit,
     TaskDelay,
@@ -126,6 +134,7 @@ pub enum CallWord {
     Read,
     Write,
     Lseek,
+    ConsoleWrite,
 }
 
 impl ObjectWord {
@@ -400,6 +409,28 @@ impl PathsWord {
     }
 }
 
+impl BareWord {
+    /// The call without arguments.
+    pub fn call(self) -> Call
+        ensures value { result ≡ words.bare_call self }
+        ensures plain { said result ≡ words.bare_call self }
+    {
+        match self {
+            BareWord::ConsoleEnable => Call::ConsoleEnable,
+            BareWord::ConsoleDisable => Call::ConsoleDisable,
+        }
+    }
+
+    fn text(self) -> &'static [u8]
+        ensures { result.now ≡ words.bare_text self }
+    {
+        match self {
+            BareWord::ConsoleEnable => b"console_enable",
+            BareWord::ConsoleDisable => b"console_disable",
+        }
+    }
+}
+
 impl CallWord {
     /// The word of the call, as lines and reports write it.
     pub fn text(self) -> &'static [u8]
@@ -413,6 +444,7 @@ impl CallWord {
             CallWord::Number(word) => word.text(),
             CallWord::Path(word) => word.text(),
             CallWord::Paths(word) => word.text(),
+            CallWord::Bare(word) => word.text(),
             CallWord::TaskCreate => b"task_create",
             CallWord::TaskExit => b"task_exit",
             CallWord::TaskDelay => b"task_delay",
@@ -426,12 +458,13 @@ impl CallWord {
             CallWord::Read => b"read",
             CallWord::Write => b"write",
             CallWord::Lseek => b"lseek",
+            CallWord::ConsoleWrite => b"console_write",
         }
     }
 }
 
 /// Every call that a line may make.
-const WORDS: [CallWord; 72] = [
+const WORDS: [CallWord; 75] = [
     CallWord::Object(ObjectWord::TaskDelete),
     CallWord::Object(ObjectWord::TaskInfo),
     CallWord::Object(ObjectWord::QueueDelete),
@@ -491,6 +524,8 @@ const WORDS: [CallWord; 72] = [
     CallWord::Paths(PathsWord::Mount),
     CallWord::Paths(PathsWord::Rename),
     CallWord::Paths(PathsWord::Cp),
+    CallWord::Bare(BareWord::ConsoleEnable),
+    CallWord::Bare(BareWord::ConsoleDisable),
     CallWord::TaskCreate,
     CallWord::TaskExit,
     CallWord::TaskDelay,
@@ -504,6 +539,7 @@ const WORDS: [CallWord; 72] = [
     CallWord::Read,
     CallWord::Write,
     CallWord::Lseek,
+    CallWord::ConsoleWrite,
 ];
 
 /// The call that a word names. It looks at each word at most.

@@ -8,6 +8,8 @@ mod files;
 #[cfg(test)]
 mod fixture;
 #[cfg(test)]
+mod flight;
+#[cfg(test)]
 mod locks;
 #[cfg(test)]
 mod meeting;
@@ -21,3 +23,5 @@ mod semaphores;
 mod several;
 #[cfg(test)]
 mod timers;
+#[cfg(test)]
+mod words;

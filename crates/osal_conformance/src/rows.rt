@@ -196,11 +196,15 @@ fn gets_usage(rt: &impl Abort, alloc: Global, words: &[&str]) -> Result<bool, Fa
 
 #[test]
 fn other_words_get_the_usage_text(rt: HostRuntime) -> Result<(), Fail> {
-    let commands: [&[&str]; 8] = [
+    let commands: [&[&str]; 12] = [
         &[],
-        &["--journal", "app"],
-        &["app", "--journal"],
-        &["--make", "2"],
+        &["--journal"],
+        &["--journal", "--journal"],
+        &["--make", "0"],
+        &["--make", "61"],
+        &["--make", "02"],
+        &["--make="],
+        &["--make", "2", "--journal"],
         &["-x"],
         &["-"],
         &[""],

@@ -5,5 +5,8 @@ pub mod Begun
 pub mod Driven
 pub mod Taking
 pub mod Going
+pub mod OwnCalls
+pub mod Telling
+pub mod Draining
 pub mod Settling
 pub mod Beginning

@@ -1,27 +1,29 @@
 -- Where no runner goes on no task can, and time goes on or the run is settled.
-use Rattle.std.proofs.Common.{◌≡◌, ◌<◌, ◌≤◌, ◌+◌, ◌++◌, ◌&&◌, ◌||◌, ℕ, Bool, true, false, not, cond, List, [], ◌∷◌, Some, None, length, inl, inr, refl, sym, ap, subst, ◌∙◌, arith}
-use Rattle.std.proofs.lemmas.Bool.{cases_Bool, eq-eqb, or_from, or_left, or_right}
+use Rattle.std.proofs.Common.{◌≡◌, ◌<◌, ◌≤◌, ◌+◌, ◌++◌, ◌&&◌, ◌||◌, ℕ, Bool, true, false, not, cond, List, [], ◌∷◌, Some, None, length, nat_lt, inl, inr, refl, sym, ap, subst, ◌∙◌, arith}
+use Rattle.std.proofs.lemmas.Bool.{cases_Bool, eq-eqb, ltb-true, ltb-false, or_from, or_left, or_right}
 use Rattle.std.proofs.lemmas.List.{length_push}
 use Rattle.osal_base.specs.Reply.{Replied}
 use Rattle.osal_task.specs.Tasks.{goes}
 use Rattle.osal_call.specs.declared.call.Call.TheVariants as call
 use Rattle.osal_call.specs.declared.call.Entry.{Entry}
+use Rattle.osal_console.specs.Console.{is_pending}
 use Rattle.osal_machine.specs.Step.{MachineState, step}
 use Rattle.osal_script.specs.declared.phase.Phase.{Phase}
 use Rattle.osal_script.specs.App.{Application}
 use Rattle.osal_script.specs.Script.{ScriptState, is_ended}
-use Rattle.osal_runs.specs.Segments.{Segment, script_in, is_of, has_segment, recorded, segments_of}
+use Rattle.osal_runs.specs.Segments.{Segment, script_in, is_of, has_segment, segments_of}
 use Rattle.osal_runs.specs.Waiting.{waits_on, can_go, some_can_go, next_deadline}
-use Rattle.osal_runs.specs.Linked.{no_script, newest_script, is_creation, is_leaving}
+use Rattle.osal_runs.specs.Linked.{no_script, newest_script}
 use Rattle.osal_runs.specs.UnderWay.{IsUnderWay}
 use Rattle.osal_runs.specs.Runs.{EndsBefore, IsRun}
-use Rattle.osal_runs.proofs.LinkedSteps.{recorded_still}
 use Rattle.osal_runs.proofs.UnderWay.{time_goes_on}
-use Rattle.osal_exec.specs.Running.{runner_at, slot_of_task, AreRunning, can_run, is_lost, NoneRuns, NoneIsLost}
-use Rattle.osal_exec.specs.Driving.{MakesEntry, IsPushed, AddsEntry, Drive, IsDriven, IsCalm, IsSteady, Since, HasTurned}
+use Rattle.osal_exec.specs.Running.{runner_at, slot_of_task, can_run, is_lost, NoneRuns, NoneIsLost}
+use Rattle.osal_exec.specs.Driving.{MakesEntry, IsPushed, AddsEntry, Drive, IsDriven, IsCalm, IsSteady, Since, IsStill, HasPlayed, HasTurned}
 use Rattle.osal_exec.proofs.Allowed.{cannot_go}
 use Rattle.osal_exec.proofs.Taking.{would, would_make}
-use Rattle.osal_exec.proofs.Driven.{step_of, spare_for, segments_on, driven_push}
+use Rattle.osal_exec.proofs.Driven.{step_of, spare_for}
+use Rattle.osal_exec.proofs.OwnCalls.{steady_by_machine}
+use Rattle.osal_exec.proofs.Telling.{none_pending}
 
 -- whether a task whose script is in a phase can go on
 abbrev may_go : MachineState → ℕ → Phase → Bool
@@ -51,20 +53,20 @@ AreStill drive =
     (slot : ℕ) → slot < 64 → (can_run drive.state (runner_at drive.runners slot) ≡ false) × (is_lost drive.state (runner_at drive.runners slot) ≡ false)
 
 -- the journal never gets shorter
-no_shorter : (old new : Drive) (P : Type 0) → Since old new P → length old.journal.entries ≤ length new.journal.entries
+pub no_shorter : (old new : Drive) (P : Type 0) → Since old new P → length old.journal.entries ≤ length new.journal.entries
 no_shorter old new P (inl grown) = omega arith
 no_shorter old new P (inr none) =
     let same = ap (λ (d : Drive). length d.journal.entries) none.0 in omega arith
 
--- where the journal has not grown, nothing was left to leave or to run
-pub stays_still : (old mid new : Drive) → Since old mid (NoneIsLost old.state old.runners 64) → Since mid new (NoneRuns mid.state mid.runners 64) → length new.journal.entries ≤ length old.journal.entries → AreStill new
+-- where the journal has not grown, all is as it was, and nothing was left to leave or to run
+pub stays_still : (old mid new : Drive) → Since old mid (NoneIsLost old.state old.runners 64) → Since mid new (NoneRuns mid.state mid.runners 64) → length new.journal.entries ≤ length old.journal.entries → (new ≡ old) × AreStill new
 stays_still old mid new (inl left) (inl ran) most = absurd (omega arith)
 stays_still old mid new (inl left) (inr none) most =
     let same = ap (λ (d : Drive). length d.journal.entries) none.0 in absurd (omega arith)
 stays_still old mid new (inr none) (inl ran) most =
     let same = ap (λ (d : Drive). length d.journal.entries) none.0 in absurd (omega arith)
 stays_still old mid new (inr lost) (inr runs) most =
-    subst AreStill (sym runs.0) (λ slot within. (runs.1 slot within, subst (λ (d : Drive). is_lost d.state (runner_at d.runners slot) ≡ false) (sym lost.0) (lost.1 slot within)))
+    (runs.0 ∙ lost.0, subst AreStill (sym runs.0) (λ slot within. (runs.1 slot within, subst (λ (d : Drive). is_lost d.state (runner_at d.runners slot) ≡ false) (sym lost.0) (lost.1 slot within))))
 
 module _ (app : Application) (drive : Drive) (driven : IsDriven app drive) where
   -- the segments so far
@@ -87,14 +89,15 @@ module _ (app : Application) (drive : Drive) (driven : IsDriven app drive) where
   nobody_goes still =
       still_all drive.state made_so_far driven.way.part.follows.ended (λ task has. still_script still task)
 
-  -- the run is settled where no wait becomes due either
-  pub settles : AreStill drive → next_deadline drive.state ≡ None → IsRun app drive.journal.entries
-  settles still none = record {
+  -- the run is settled where no wait becomes due either, and no byte is pending
+  pub settles : IsStill app drive → is_pending drive.state.console ≡ false → IsRun app drive.journal.entries
+  settles none drained = record {
     part = driven.way.part;
     begun = driven.way.begun;
     settled = record {
-      still = ap (λ (s : MachineState). some_can_go s made_so_far) (sym driven.replayed) ∙ nobody_goes still;
-      due = ap next_deadline (sym driven.replayed) ∙ none;
+      still = ap (λ (s : MachineState). some_can_go s made_so_far) (sym driven.replayed) ∙ none.still;
+      due = ap next_deadline (sym driven.replayed) ∙ none.due;
+      drained = ap (λ (s : MachineState). s.console.pending) (sym driven.replayed) ∙ none_pending drive.state.console drained;
     };
   }
 
@@ -117,42 +120,49 @@ module _ (app : Application) (drive : Drive) (driven : IsDriven app drive) where
     pub advance_spared : 0 < drive.journal.spare
     advance_spared = spare_for app drive driven entry way_later
 
-    -- it joins no segment and begins none
-    same_segments : recorded app made_so_far entry ≡ made_so_far
-    same_segments =
-        recorded_still app made_so_far entry (ap (has_segment made_so_far) makes.of_task ∙ driven.way.linked.nobody) (ap is_creation makes.of_call)
-
     -- the driver is steady behind it
     pub advanced_on : IsCalm app drive.journal.entries → (new : Drive) → IsPushed drive.journal new.journal entry → new.state ≡ left → new.runners ≡ drive.runners → IsSteady app new
-    advanced_on calm new pushed at runners = record {
-      driven = driven_push app drive driven entry way_later new pushed (at ∙ makes.left ∙ ap (λ (r : Replied × MachineState). r.1) (step_of app drive driven 0 0 (call.Advance to) left entry makes)) (subst (λ list. AreRunning list new.runners) (sym same_segments) (subst (AreRunning made_so_far) (sym runners) driven.running));
-      calm = λ task. ap (λ list. is_leaving (newest_script list task).phase) (segments_on app drive driven new.journal entry pushed ∙ same_segments) ∙ calm task;
-    }
+    advanced_on calm new pushed at runners =
+        steady_by_machine app drive driven (call.Advance to) refl left entry makes way_later calm new pushed at runners
 
-module _ (app : Application) (old mid new : Drive) (left : Since old mid (NoneIsLost old.state old.runners 64)) (ran : Since mid new (NoneRuns mid.state mid.runners 64)) (steady : IsSteady app new) where
-  -- a turn that made an entry has gone on
-  pub turned_on : length old.journal.entries < length new.journal.entries → HasTurned app old new true
-  turned_on grown = (steady, grown)
+module _ (app : Application) (old mid new : Drive) (left : Since old mid (NoneIsLost old.state old.runners 64)) (ran : Since mid new (NoneRuns mid.state mid.runners 64)) (steady : IsSteady app new) (most : length new.journal.entries ≤ length old.journal.entries) where
+  -- nothing was left to do in the round
+  still : (new ≡ old) × AreStill new
+  still = stays_still old mid new left ran most
 
-  module _ (most : length new.journal.entries ≤ length old.journal.entries) where
-    -- nothing was left to do in the round
-    still : AreStill new
-    still = stays_still old mid new left ran most
+  -- where no wait becomes due either, nothing is left to do there
+  pub played_out : next_deadline new.state ≡ None → HasPlayed app old new false
+  played_out none = (still.0, record { still = nobody_goes app new steady.driven still.1; due = none })
 
-    -- a turn without an entry and without a deadline leaves a run
-    pub turned_settled : next_deadline new.state ≡ None → IsRun app new.journal.entries
-    turned_settled none = settles app new steady.driven still none
+  module _ (to : ℕ) (due : next_deadline new.state ≡ Some to) where
+    -- there is room for the entry that makes time go on
+    pub played_spared : 0 < new.journal.spare
+    played_spared =
+        advance_spared app new steady.driven still.1 to due (step new.state 0 new.state.time.moment (call.Advance to)).1 (would 0 0 new.state (call.Advance to)) (would_make 0 0 new.state (call.Advance to))
 
-    module _ (to : ℕ) (due : next_deadline new.state ≡ Some to) where
-      -- there is room for the entry that makes time go on
-      pub turned_spared : 0 < new.journal.spare
-      turned_spared =
-          advance_spared app new steady.driven still to due (step new.state 0 new.state.time.moment (call.Advance to)).1 (would 0 0 new.state (call.Advance to)) (would_make 0 0 new.state (call.Advance to))
+    -- the driver has gone on by it
+    pub played_later : (last : Drive) → AddsEntry 0 0 (call.Advance to) new.state last.state new.journal last.journal → last.runners ≡ new.runners → HasPlayed app old last true
+    played_later last adds same =
+        let first = no_shorter old mid (NoneIsLost old.state old.runners 64) left in
+        let second = no_shorter mid new (NoneRuns mid.state mid.runners 64) ran in
+        let more : length last.journal.entries ≡ length new.journal.entries + 1 = ap length adds.1.entries ∙ length_push new.journal.entries adds.0 in
+        (advanced_on app new steady.driven still.1 to due last.state adds.0 adds.2 steady.calm last adds.1 refl same, omega arith)
 
-      -- the turn has gone on by it
-      pub turned_later : (last : Drive) → AddsEntry 0 0 (call.Advance to) new.state last.state new.journal last.journal → last.runners ≡ new.runners → HasTurned app old last true
-      turned_later last adds same =
-          let first = no_shorter old mid (NoneIsLost old.state old.runners 64) left in
-          let second = no_shorter mid new (NoneRuns mid.state mid.runners 64) ran in
-          let more : length last.journal.entries ≡ length new.journal.entries + 1 = ap length adds.1.entries ∙ length_push new.journal.entries adds.0 in
-          (advanced_on app new steady.driven still to due last.state adds.0 adds.2 steady.calm last adds.1 refl same, omega arith)
+module _ (app : Application) (old mid new : Drive) (drained : Since old mid (is_pending old.state.console ≡ false)) (steady : IsSteady app mid) where
+  -- where nothing was played, the run is settled or bytes were drained
+  turned_still : (grown : Bool) → HasPlayed app mid new false → grown ≡ nat_lt (length old.journal.entries) (length new.journal.entries) → Since old mid (is_pending old.state.console ≡ false) → HasTurned app old new grown
+  turned_still true played test since =
+      (subst (IsSteady app) (sym played.0) steady, ltb-true _ _ (sym test))
+  turned_still false played test (inl more) =
+      let same = ap (λ (d : Drive). length d.journal.entries) played.0 in
+      let most = ltb-false _ _ (sym test) in
+      absurd (omega arith)
+  turned_still false played test (inr none) =
+      settles app new (subst (IsDriven app) (sym played.0) steady.driven) played.1
+      (ap (λ (d : Drive). is_pending d.state.console) (played.0 ∙ none.0) ∙ none.1)
+
+  -- what a drain and a round leave
+  pub turned : (more grown : Bool) → HasPlayed app mid new more → grown ≡ nat_lt (length old.journal.entries) (length new.journal.entries) → HasTurned app old new (more || grown)
+  turned true grown played test =
+      let first = no_shorter old mid (is_pending old.state.console ≡ false) drained in (played.0, omega arith)
+  turned false grown played test = turned_still grown played test drained

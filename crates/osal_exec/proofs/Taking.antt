@@ -1,9 +1,10 @@
 -- A driver that takes a call of a task has room for its entry, and goes on as it has come.
-use Rattle.std.proofs.Common.{◌≡◌, ◌<◌, ◌+◌, ◌-◌, ℕ, Option, Some, None, length, refl, subst, arith}
+use Rattle.std.proofs.Common.{◌≡◌, ◌<◌, ◌+◌, ◌-◌, ℕ, false, Option, Some, None, length, refl, subst, arith}
 use Rattle.std.specs.List.{AllByRecursion}
 use Rattle.osal_call.specs.declared.call.Call.{Call}
 use Rattle.osal_call.specs.declared.call.Entry.{Entry}
 use Rattle.osal_machine.specs.Step.{MachineState, step}
+use Rattle.osal_laws.specs.ConsoleText.{is_drain}
 use Rattle.osal_script.specs.App.{Application}
 use Rattle.osal_script.specs.Cost.{cost_of}
 use Rattle.osal_runs.specs.Segments.{begun}
@@ -11,6 +12,7 @@ use Rattle.osal_exec.specs.Running.{Running, runner_at, MayMake, IsIdentifier}
 use Rattle.osal_exec.specs.Driving.{MakesEntry, Drive, IsDriven, MayCreate, Takes}
 use Rattle.osal_exec.proofs.Begun.{begun_small}
 use Rattle.osal_runs.proofs.CostLaw.{cost_bounds_entries}
+use Rattle.osal_runs.proofs.Following.{next_undrained}
 use Rattle.osal_exec.proofs.Driven.{spare_for, way_on, news, driven_taken}
 
 -- the entry that a call would make
@@ -37,6 +39,12 @@ would_make caller task state made = record {
   replied = refl;
   left = refl;
 }
+
+-- no call of a task drains the console
+pub never_drains : (state : MachineState) (o : Option Running) (made : Call) → MayMake state o made → is_drain made ≡ false
+never_drains state None made may = absurd may
+never_drains state (Some runner) made may =
+    next_undrained runner.script.phase runner.script made (step state runner.id state.time.moment made).0.answer may
 
 module _ (app : Application) (drive : Drive) (driven : IsDriven app drive) (slot : ℕ) (made : Call) (may : MayMake drive.state (runner_at drive.runners slot) made) (creates : MayCreate app drive.journal.entries made) where
   -- there is room for the entry, whatever the answer

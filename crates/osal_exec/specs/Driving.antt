@@ -1,5 +1,5 @@
 -- What a driver has done so far.
-use Rattle.std.specs.Prelude.{◌≡◌, ◌<◌, ◌≤◌, ◌+◌, ◌++◌, ◌⊎◌, List, [], ◌∷◌, ℕ, Bool, true, false, Option, Some, length}
+use Rattle.std.specs.Prelude.{◌≡◌, ◌<◌, ◌≤◌, ◌+◌, ◌++◌, ◌⊎◌, List, [], ◌∷◌, ℕ, Bool, true, false, Option, Some, None, length}
 use Rattle.osal_base.specs.Limits.{version1}
 use Rattle.osal_base.specs.Reply.{reply_of}
 use Rattle.osal_call.specs.declared.call.Call.{Call}
@@ -10,6 +10,7 @@ use Rattle.osal_machine.specs.History.{replay}
 use Rattle.osal_script.specs.App.{Application, NamesLater, HandlersAreBare}
 use Rattle.osal_script.specs.Cost.{cost_of}
 use Rattle.osal_runs.specs.Segments.{begun, segments_of}
+use Rattle.osal_runs.specs.Waiting.{some_can_go, next_deadline}
 use Rattle.osal_runs.specs.Linked.{newest_script, is_leaving, is_creation}
 use Rattle.osal_runs.specs.Runs.{IsRun}
 use Rattle.osal_runs.specs.UnderWay.{IsUnderWay}
@@ -78,6 +79,16 @@ pub record Takes (app : Application) (slot : ℕ) (made : Call) (old new : Drive
 -- the journal has grown since, or all is as it was and the fact holds
 abbrev pub Since : Drive → Drive → Type 0 → Type 0
 Since old new P = (length old.journal.entries < length new.journal.entries) ⊎ ((new ≡ old) × P)
+
+-- no task can go on, and no wait becomes due
+pub record IsStill (app : Application) (drive : Drive) : Type 0 where
+  pub still : some_can_go drive.state (segments_of app drive.journal.entries) ≡ false
+  pub due : next_deadline drive.state ≡ None
+
+-- what a round and what comes beside it leave: a driver that has gone on, or nothing was left to do there
+abbrev pub HasPlayed : Application → Drive → Drive → Bool → Type 0
+HasPlayed app old new true = IsSteady app new × (length old.journal.entries < length new.journal.entries)
+HasPlayed app old new false = (new ≡ old) × IsStill app new
 
 -- what a turn of a driver leaves: a driver that has gone on, or a run
 abbrev pub HasTurned : Application → Drive → Drive → Bool → Type 0

@@ -9,15 +9,32 @@ ghost use Rattle.osal_runs.specs.Segments.{segments_of};
 ghost use Rattle.osal_runs.specs.Waiting.{some_can_go};
 ghost use Rattle.osal_runs.specs.Runs.{IsPartRun, IsRun};
 ghost use Rattle.osal_exec.specs.Running.{runner_at, can_run, is_lost, IsLostIn, MayMake, NoneRuns, NoneIsLost, AreMembers};
-ghost use Rattle.osal_exec.specs.Driving.{MakesEntry, drive_of, IsDriven, AddsEntry, IsSteady, MayCreate, Takes, Since, HasTurned};
+ghost use Rattle.osal_console.specs.Console.{is_pending};
+ghost use Rattle.osal_laws.specs.ConsoleText.{drained};
+ghost use Rattle.osal_outside.specs.Causes.{RoseIf};
+ghost use Rattle.osal_exec.specs.Telling.{Tells, TellsPrefix, is_sink_halt};
+ghost use Rattle.osal_exec.specs.Driving.{MakesEntry, drive_of, IsDriven, AddsEntry, IsSteady, MayCreate, Takes, Since, HasPlayed, HasTurned};
 
 use crate::Gate;
 use crate::runners::{Runners, SLOTS};
 use osal_base::{Bytes, Limits, OsalId, OutOfMemory, Reply, Room};
 use osal_call::{Call, Entry, Journal};
 use osal_machine::Whole;
+use osal_outside::{Sink, WriteFailed, send_all};
 use osal_script::{App, Phase, Step};
 use std::alloc::Global;
+
+/// The most bytes that one drain takes.
+const DRAIN_LIMIT: u32 = 1024;
+
+/// Why a run stops before it is settled.
+#[derive(Clone, Copy, Debug, PartialEq, Eq)]
+pub(crate) enum Halt {
+    /// The sink failed.
+    SinkFault,
+    /// There was no memory to go on.
+    OutOfMemory,
+}
 
 /// A machine, the room for the bytes of its replies, and the tasks whose scripts run on it.
 #[derive(Drop)]
@@ -126,6 +143,7 @@ impl<'a> Stage<'a> {
             (drive_of journal.old self.old.whole self.old.runners)
             (drive_of journal.new self.new.whole self.new.runners)) }
         ensures memory { OnErr result (journal.new.entries ≡ journal.old.entries) }
+        ensures undrained { drained journal.new.entries ≡ drained journal.old.entries }
     {
         let id = match self.runners.at(slot) {
             Some(runner) => runner.id(),
@@ -154,6 +172,7 @@ impl<'a> Stage<'a> {
         ensures steady { OnOk result (IsSteady app.now (drive_of journal.new self.new.whole self.new.runners)) }
         ensures grown { OnOk result (length journal.old.entries < length journal.new.entries) }
         ensures memory { OnErr result (journal.new.entries ≡ journal.old.entries) }
+        ensures undrained { drained journal.new.entries ≡ drained journal.old.entries }
     {
         let step = match self.runners.at(slot) {
             Some(runner) => runner.cursor().step(alloc)?,
@@ -182,6 +201,7 @@ impl<'a> Stage<'a> {
         ensures steady { OnOk result (IsSteady app.now (drive_of journal.new self.new.whole self.new.runners)) }
         ensures grown { OnOk result (length journal.old.entries < length journal.new.entries) }
         ensures memory { OnErr result (IsPartRun app.now journal.new.entries) }
+        ensures undrained { drained journal.new.entries ≡ drained journal.old.entries }
     {
         self.take(alloc, app, gate, journal, slot, line, Call::Checkpoint)?;
         let call = Call::WaitAbandon { part };
@@ -205,6 +225,7 @@ impl<'a> Stage<'a> {
             (drive_of journal.new self.new.whole self.new.runners)
             (can_run self.old.whole (runner_at self.old.runners slot) ≡ false)) }
         ensures memory { OnErr result (IsPartRun app.now journal.new.entries) }
+        ensures undrained { drained journal.new.entries ≡ drained journal.old.entries }
     {
         while self.can_run(slot) {
             self.go_on(alloc, app, gate, journal, slot)?;
@@ -227,6 +248,7 @@ impl<'a> Stage<'a> {
             (drive_of journal.new self.new.whole self.new.runners)
             (NoneIsLost self.old.whole self.old.runners 64)) }
         ensures memory { OnErr result (IsPartRun app.now journal.new.entries) }
+        ensures undrained { drained journal.new.entries ≡ drained journal.old.entries }
     {
         for slot in 0..SLOTS {
             if let Some((line, part)) = self.lost(slot) {
@@ -262,6 +284,7 @@ impl<'a> Stage<'a> {
             (drive_of journal.new self.new.whole self.new.runners)
             (NoneRuns self.old.whole self.old.runners 64)) }
         ensures memory { OnErr result (IsPartRun app.now journal.new.entries) }
+        ensures undrained { drained journal.new.entries ≡ drained journal.old.entries }
     {
         let members = self.members();
         for slot in 0..SLOTS {
@@ -292,20 +315,76 @@ impl<'a> Stage<'a> {
         Ok(())
     }
 
-    /// What comes between two rounds and the round, or else the next moment. It answers false where the run is settled.
-    pub(crate) fn turn<G: Gate>(
+    /// Drains the console once, and writes what it gave.
+    fn drain_once<K: Sink>(
+        &mut self,
+        alloc: Global,
+        app: &'a App,
+        sink: &mut K,
+        journal: &mut Journal,
+    ) -> Result<(), Halt>
+        requires steady { IsSteady app.now (drive_of journal.old self.old.whole self.old.runners) }
+        requires some { is_pending self.old.whole.console ≡ true }
+        ensures steady { OnOk result (IsSteady app.now (drive_of journal.new self.new.whole self.new.runners)) }
+        ensures grown { OnOk result (length journal.old.entries < length journal.new.entries) }
+        ensures halted { OnErr result (IsPartRun app.now journal.new.entries) }
+        ensures told { OnOk result (Tells journal.old.entries journal.new.entries (K.written sink.old) (K.written sink.new)) }
+        ensures prefix { TellsPrefix journal.old.entries journal.new.entries (K.written sink.old) (K.written sink.new) }
+        ensures cause { RoseIf (is_sink_halt result) (K.faults sink.old) (K.faults sink.new) }
+    {
+        let call = Call::Drain { n: DRAIN_LIMIT };
+        let (whole, room) = (&mut self.whole, &mut self.room);
+        let Ok(made) = entry_of(alloc, whole, room, 0, OsalId::UNDEFINED, call) else {
+            return Err(Halt::OutOfMemory);
+        };
+        let sent = send_all(sink, made.reply.bytes.as_slice());
+        journal.push(made);
+        match sent {
+            Ok(()) => Ok(()),
+            Err(WriteFailed) => Err(Halt::SinkFault),
+        }
+    }
+
+    /// Drains the console, and writes what it gives, until no byte is pending. Where none is, the sink is not asked.
+    fn drain<K: Sink>(
+        &mut self,
+        alloc: Global,
+        app: &'a App,
+        sink: &mut K,
+        journal: &mut Journal,
+    ) -> Result<(), Halt>
+        requires steady { IsSteady app.now (drive_of journal.old self.old.whole self.old.runners) }
+        ensures steady { OnOk result (IsSteady app.now (drive_of journal.new self.new.whole self.new.runners)) }
+        ensures still { OnOk result (Since
+            (drive_of journal.old self.old.whole self.old.runners)
+            (drive_of journal.new self.new.whole self.new.runners)
+            (is_pending self.old.whole.console ≡ false)) }
+        ensures halted { OnErr result (IsPartRun app.now journal.new.entries) }
+        ensures told { OnOk result (Tells journal.old.entries journal.new.entries (K.written sink.old) (K.written sink.new)) }
+        ensures prefix { TellsPrefix journal.old.entries journal.new.entries (K.written sink.old) (K.written sink.new) }
+        ensures cause { RoseIf (is_sink_halt result) (K.faults sink.old) (K.faults sink.new) }
+    {
+        while self.whole.is_console_pending() {
+            self.drain_once(alloc, app, sink, journal)?;
+        }
+        Ok(())
+    }
+
+    /// The round of the tasks, and what comes before it. It answers whether the journal has grown.
+    fn play<G: Gate>(
         &mut self,
         alloc: Global,
         app: &'a App,
         gate: &G,
         journal: &mut Journal,
     ) -> Result<bool, OutOfMemory>
-        requires { IsSteady app.now (drive_of journal.old self.old.whole self.old.runners) }
-        ensures turned { IfOk result (λ more. HasTurned app.now
+        requires steady { IsSteady app.now (drive_of journal.old self.old.whole self.old.runners) }
+        ensures played { IfOk result (λ more. HasPlayed app.now
             (drive_of journal.old self.old.whole self.old.runners)
             (drive_of journal.new self.new.whole self.new.runners)
             more) }
         ensures memory { OnErr result (IsPartRun app.now journal.new.entries) }
+        ensures undrained { drained journal.new.entries ≡ drained journal.old.entries }
     {
         let before = journal.len();
         self.leave_all(alloc, app, gate, journal)?;
@@ -318,6 +397,35 @@ impl<'a> Stage<'a> {
         };
         self.advance(alloc, journal, to)?;
         Ok(true)
+    }
+
+    /// What comes between two rounds, and the round, or else the next moment. It answers false where the run is settled.
+    ///
+    /// The console is drained first, where a round has left bytes on it.
+    pub(crate) fn turn<K: Sink, G: Gate>(
+        &mut self,
+        alloc: Global,
+        app: &'a App,
+        sink: &mut K,
+        gate: &G,
+        journal: &mut Journal,
+    ) -> Result<bool, Halt>
+        requires { IsSteady app.now (drive_of journal.old self.old.whole self.old.runners) }
+        ensures turned { IfOk result (λ more. HasTurned app.now
+            (drive_of journal.old self.old.whole self.old.runners)
+            (drive_of journal.new self.new.whole self.new.runners)
+            more) }
+        ensures halted { OnErr result (IsPartRun app.now journal.new.entries) }
+        ensures told { OnOk result (Tells journal.old.entries journal.new.entries (K.written sink.old) (K.written sink.new)) }
+        ensures prefix { TellsPrefix journal.old.entries journal.new.entries (K.written sink.old) (K.written sink.new) }
+        ensures cause { RoseIf (is_sink_halt result) (K.faults sink.old) (K.faults sink.new) }
+    {
+        let before = journal.len();
+        self.drain(alloc, app, sink, journal)?;
+        match self.play(alloc, app, gate, journal) {
+            Ok(more) => Ok(more || before < journal.len()),
+            Err(OutOfMemory) => Err(Halt::OutOfMemory),
+        }
     }
 
     /// The first entry: the machine creates the first body's task, under the body's own name.
@@ -333,6 +441,7 @@ impl<'a> Stage<'a> {
         requires room { cost_of app.now ≤ journal.old.spare }
         ensures steady { OnOk result (IsSteady app.now (drive_of journal.new self.new.whole self.new.runners)) }
         ensures memory { OnErr result (journal.new.entries ≡ []) }
+        ensures undrained { drained journal.new.entries ≡ [] }
     {
         let call = Call::TaskCreate {
             name: Bytes::copy(alloc, app.main().name().as_slice())?,

@@ -211,4 +211,4 @@ values_bounded limits entries part =
     (λ id active is. absurd (no_active CountSem (type_number kind.CountSem) limits.count_sems id active is))
     tt
     (λ id active is. absurd (no_active Mutex (type_number kind.Mutex) limits.mutexes id active is))
-    tt tt tt (λ n. tt) part)
+    tt tt tt tt (λ n. tt) part)

@@ -60,7 +60,7 @@ module _ (state : MachineState) (task : ℕ) (now : Moment) (made : Call) where
 -- a part in which a task waits has a number of a part
 pub near_part : (state : MachineState) (task part : ℕ) → has_wait (part_in part state) task ≡ true → part ≤ 8
 near_part state task part =
-    by_number (λ n p. has_wait p task ≡ true → n ≤ 8) state (λ some. omega arith) (λ some. omega arith) (λ some. omega arith) (λ some. omega arith) (λ some. omega arith) (λ some. omega arith) (λ some. omega arith) (λ some. omega arith) (λ n some. absurd (false≢true some)) part
+    by_number (λ n p. has_wait p task ≡ true → n ≤ 8) state (λ some. omega arith) (λ some. omega arith) (λ some. omega arith) (λ some. omega arith) (λ some. omega arith) (λ some. omega arith) (λ some. omega arith) (λ some. omega arith) (λ some. omega arith) (λ n some. absurd (false≢true some)) part
 
 -- a wait in a part is of that part
 pub of_near : (part : ℕ) → part ≤ 8 → part_of_wait part ≡ part

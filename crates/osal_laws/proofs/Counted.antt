@@ -1,7 +1,12 @@
 -- In every state of the machine the holds of objects are counted and the tables are well formed: each move keeps both.
-use Rattle.std.proofs.Common.{◌≡◌, ℕ, List, [], ◌∷◌, refl, sym, subst, ◌∙◌}
-use Rattle.osal_object.specs.Objects.{ObjectsState}
-use Rattle.osal_object.specs.Moves.{Move, moved, after_moves, MayMove, MayMoveAll}
+use Rattle.std.proofs.Common.{◌≡◌, ℕ, List, [], ◌∷◌, Some, refl, sym, subst, ◌∙◌, arith}
+use Rattle.std.specs.Prelude.{codes}
+use Rattle.osal_base.specs.declared.id.ObjType.TheVariants as kind
+use Rattle.osal_base.specs.declared.limits.Limits.{Limits}
+use Rattle.osal_base.specs.Identifier.{type_number}
+use Rattle.osal_base.specs.Limits.{IsCapacity}
+use Rattle.osal_object.specs.Objects.{ObjectsState, no_objects}
+use Rattle.osal_object.specs.Moves.{Move, Create, moved, after_moves, MayMove, MayMoveAll}
 use Rattle.osal_idtable.specs.WellFormed.{IsWellFormed}
 use Rattle.osal_object.specs.ObjectLaws.{IsCounted}
 use Rattle.osal_idtable.proofs.WellFormed.{stays_well_formed}
@@ -13,7 +18,7 @@ use Rattle.osal_machine.specs.Parts.{PartState}
 use Rattle.osal_machine.specs.Step.{MachineState, opening, part_in}
 use Rattle.osal_machine.specs.History.{replay_from}
 use Rattle.osal_laws.specs.Laws.{AreCounted, ObjectsAreCounted, TablesAreWellFormed}
-use Rattle.osal_laws.proofs.PartMoves.{EachMoves, tasks_in, tasks_move, queues_in, queues_move, count_sems_in, count_sems_move, bin_sems_in, bin_sems_move, mutexes_in, mutexes_move, condvars_in, condvars_move, timebases_in, timebases_move, timers_in, timers_move, streams_in, streams_move, systems_in, systems_move, directories_in, directories_move}
+use Rattle.osal_laws.proofs.PartMoves.{EachMoves, tasks_in, tasks_move, queues_in, queues_move, count_sems_in, count_sems_move, bin_sems_in, bin_sems_move, mutexes_in, mutexes_move, condvars_in, condvars_move, timebases_in, timebases_move, timers_in, timers_move, streams_in, streams_move, systems_in, systems_move, directories_in, directories_move, consoles_in, consoles_move}
 use Rattle.osal_laws.proofs.Replays.{replay_moves}
 
 -- each move that may be made keeps it
@@ -67,7 +72,20 @@ counted_from start entries counted = record {
   streams = counted_in start entries streams_in streams_move 7 counted.streams;
   systems = counted_in start entries systems_in systems_move 7 counted.systems;
   directories = counted_in start entries directories_in directories_move 7 counted.directories;
+  console = counted_in start entries consoles_in consoles_move 8 counted.console;
 }
+
+-- the console's table before the console stands in it
+abbrev bare_console : Limits → ObjectsState (Unit {0}) (Unit {0})
+bare_console limits = no_objects (type_number kind.Console) 1 limits.tasks
+
+-- the move that puts the console into its table
+abbrev named_console : Move (Unit {0}) (Unit {0})
+named_console = Create (Some (codes "console")) tt
+
+-- a table of one object may be
+one_fits : IsCapacity 1
+one_fits = omega arith
 
 -- the holds of an object are those of callers and the open waits that stand on it
 pub objects_counted : ObjectsAreCounted
@@ -84,6 +102,7 @@ objects_counted limits entries fits =
       streams = (holds_are_counted _ _).0 _ _ _ fits.tasks;
       systems = (holds_are_counted _ _).0 _ _ _ fits.tasks;
       directories = (holds_are_counted _ _).0 _ _ _ fits.tasks;
+      console = (holds_are_counted _ _).1 (bare_console limits) named_console ((holds_are_counted _ _).0 _ _ _ fits.tasks) tt;
     })
 
 -- the tables are well formed
@@ -100,4 +119,5 @@ tables_well_formed limits entries fits = record {
   streams = well_formed_in (opening limits) entries streams_in streams_move 7 ((stays_well_formed _).0 _ _ fits.streams);
   systems = well_formed_in (opening limits) entries systems_in systems_move 7 ((stays_well_formed _).0 _ _ fits.file_systems);
   directories = well_formed_in (opening limits) entries directories_in directories_move 7 ((stays_well_formed _).0 _ _ fits.dirs);
+  console = well_formed_in (opening limits) entries consoles_in consoles_move 8 (tables_stay_well_formed _ _ (bare_console limits) named_console ((stays_well_formed _).0 _ _ one_fits));
 }

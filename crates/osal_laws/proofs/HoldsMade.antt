@@ -1,5 +1,5 @@
 -- Since an object became active its holds are the accepted holds less the accepted releases, and the waits on it.
-use Rattle.std.proofs.Common.{◌≡◌, ◌+◌, ℕ, Bool, true, false, cond, List, [], ◌∷◌, ◌++◌, nat_lt, inl, inr, refl, sym, ap, subst, ◌∙◌, arith}
+use Rattle.std.proofs.Common.{◌≡◌, ◌==◌, ◌||◌, ◌+◌, ℕ, Bool, true, false, cond, List, [], ◌∷◌, ◌++◌, nat_lt, inl, inr, refl, sym, ap, subst, ◌∙◌, arith}
 use Rattle.std.proofs.lemmas.Bool.{cases_eq, cond_both, both_ways}
 use Rattle.osal_base.specs.declared.status.Status.TheVariants as status
 use Rattle.osal_base.specs.declared.time.Moment.{Moment}
@@ -55,6 +55,8 @@ use Rattle.osal_laws.proofs.MutexKnown.{mutexes_known}
 use Rattle.osal_laws.proofs.CondvarKnown.{condvars_known}
 use Rattle.osal_laws.proofs.TimeKnown.{SuitsCall, fits}
 use Rattle.osal_laws.proofs.IoShifts.{io_shifts, io_told}
+use Rattle.osal_laws.proofs.ConsoleKnown.{written_each}
+use Rattle.osal_console.specs.Console.{ConsoleState, Stepped, drain_limit, console_step}
 use Rattle.osal_laws.proofs.Quiet.{same_balanced, written_balanced, quiet_balanced}
 use Rattle.osal_laws.proofs.Suits.{is_holding}
 use Rattle.osal_laws.proofs.Shifts.{counts, ShiftsBy, told_by, of_holding, differ, differ_too, quiet_shifts, others_hold, others_release, refused_hold, hold_shifts, release_shifts, known_shifts}
@@ -138,6 +140,28 @@ module _ (time : TimeState) (bases : IsCounted time.timebases) (timers : IsCount
   time_told true made stepped timer timebase = told_by q made time.timers (stepped.0, stepped.1.timers) (timer refl)
   time_told false made stepped timer timebase = told_by q made time.timebases (stepped.0, stepped.1.timebases) (timebase refl)
 
+module _ (console : ConsoleState) (task : ℕ) (now : Moment) where
+  -- a call that neither holds nor releases leaves the table
+  abbrev Balances : Stepped → Type 0
+  Balances stepped = AreBalanced console.objects stepped.1.objects
+
+  console_balanced : (made : Call) → is_holding made ≡ false → Balances (console_step console task now made)
+  console_balanced (call.ConsoleWrite text) none =
+      written_each console task now Balances (same_balanced console.objects) (λ pending. same_balanced console.objects) (same_balanced console.objects) text
+  console_balanced (call.Drain n) none =
+      either Balances ((n == 0) || nat_lt drain_limit n) _ _ (same_balanced console.objects) (same_balanced console.objects)
+  console_balanced (call.Hold id) none = absurd (both_ways _ none refl)
+  console_balanced (call.Release id) none = absurd (both_ways _ none refl)
+  console_balanced _ none = same_balanced console.objects
+
+-- a call of the console shifts the holds of an identifier by what it is and answers
+console_shifts : (console : ConsoleState) (task : ℕ) (now : Moment) (q : ℕ) (made : Call) → ShiftsBy q made console.objects (seen_as (λ (s : ConsoleState). s.objects) (console_step console task now made))
+console_shifts console task now q =
+    of_holding (λ made. ShiftsBy q made console.objects (seen_as (λ (s : ConsoleState). s.objects) (console_step console task now made)))
+    (λ id. hold_shifts console.objects q id)
+    (λ id. release_shifts console.objects q id)
+    (λ made none. quiet_shifts q made console.objects (seen_as (λ (s : ConsoleState). s.objects) (console_step console task now made)) none (console_balanced console task now made none))
+
 module _ (state : MachineState) (counted : AreCounted state) (task : ℕ) (now : Moment) (made : Call) (q : ℕ) where
   part_shifts : (part : ℕ) → ShiftsPart q made (part_in part state) (part_step (part_in part state) task now made)
   part_shifts =
@@ -150,6 +174,7 @@ module _ (state : MachineState) (counted : AreCounted state) (task : ℕ) (now :
       (told_by q made state.condvars.objects (seen_as (λ (s : CondvarState). s.objects) (condvar_step state.condvars task now made)) (known_shifts condvars_known state.condvars task now counted.condvars q (hold_shifts state.condvars.objects q) (release_shifts state.condvars.objects q) made))
       (let shifts = time_shifts state.time counted.timebases counted.timers task now q made in time_told state.time counted.timebases counted.timers task now q (is_timer q) made (time_step state.time task now made) shifts.timer shifts.timebase)
       (let shifts = io_shifts state.io task now q made in io_told q state.io (is_of_stream q) (is_of_directory q) made (io_step state.io task now made) shifts.stream shifts.directory shifts.system)
+      (told_by q made state.console.objects (seen_as (λ (s : ConsoleState). s.objects) (console_step state.console task now made)) (console_shifts state.console task now q made))
       (λ n was. absurd (both_ways false refl was))
 
   not_hold : (other : Call) → (part_of_id q ≡ part_of other → ⊥) → is_hold_of q other ≡ false

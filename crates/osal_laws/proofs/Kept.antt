@@ -11,12 +11,13 @@ use Rattle.osal_task.specs.Tasks.{TaskState}
 use Rattle.osal_call.specs.declared.call.Call.{Call}
 use Rattle.osal_call.specs.declared.call.Call.TheVariants as call
 use Rattle.osal_call.specs.Signature.{part_of, is_wait_end}
-use Rattle.osal_machine.specs.Parts.{PartState, Tasks, Queues, CountSems, BinSems, Mutexes, Condvars, Time, Io, Absent, as_part, part_step}
+use Rattle.osal_machine.specs.Parts.{PartState, Tasks, Queues, CountSems, BinSems, Mutexes, Condvars, Time, Io, Console, Absent, as_part, part_step}
 use Rattle.osal_machine.specs.Step.{MachineState, part_in, with_part, in_machine}
 use Rattle.osal_machine.specs.OpenWaits.{has_wait}
 use Rattle.osal_laws.specs.Laws.{RefusedCallsChangeNothing, EndsThatWaitChangeNothing, EndsOfNoWaitChangeNothing, is_below_zero}
 use Rattle.osal_base.specs.Reply.{is_refusal}
 use Rattle.osal_laws.proofs.Own.{by_number}
+use Rattle.osal_laws.proofs.Below.{where_below}
 use Rattle.osal_object.proofs.Refusals.{Leaves, same, within}
 use Rattle.osal_laws.proofs.Known.{known_keeps, known_stays, known_refuses, known_strays}
 use Rattle.osal_laws.proofs.TaskKnown.{tasks_known}
@@ -27,18 +28,7 @@ use Rattle.osal_laws.proofs.MutexKnown.{mutexes_known}
 use Rattle.osal_laws.proofs.CondvarKnown.{condvars_known}
 use Rattle.osal_laws.proofs.TimeKnown.{time_keeps}
 use Rattle.osal_io.proofs.Known.{io_keeps}
-
--- a code below 0 is one other than success
-below_refused : (given : Answer) → is_below_zero given ≡ true → is_refusal given ≡ true
-below_refused (answer.Code (pos n)) below = absurd (both_ways (is_below_zero (answer.Code (pos n))) (le-ltb n 0 (omega arith)) below)
-below_refused (answer.Code (negsuc n)) below = refl
-below_refused answer.Waits below = below
-below_refused answer.Go below = below
-below_refused answer.Deleted below = below
-
--- a step that leaves what it found where it is refused leaves it where it answers a code below 0
-where_below : {S : Type 0} {old : S} {stepped : Replied × S} → Leaves is_refusal old stepped → Leaves is_below_zero old stepped
-where_below {stepped = stepped} leaves = record { left = λ below. leaves.left (below_refused stepped.0.answer below) }
+use Rattle.osal_laws.proofs.ConsoleKnown.{console_keeps}
 
 module _ (task : ℕ) (now : Moment) where
   -- a call that answers a code below 0 leaves its part
@@ -51,6 +41,7 @@ module _ (task : ℕ) (now : Moment) where
   part_keeps made other (Condvars condvars) = within (λ s. Condvars s) (where_below (known_keeps condvars_known condvars task now made other))
   part_keeps made other (Time time) = within (λ s. Time s) (where_below (time_keeps time task now made))
   part_keeps made other (Io io) = within (λ s. Io s) (io_keeps io task now made)
+  part_keeps made other (Console console) = within (λ s. Console s) (console_keeps console task now made)
   part_keeps made other Absent = same
 
   -- the end of a wait that waits on leaves its part
@@ -63,6 +54,7 @@ module _ (task : ℕ) (now : Moment) where
   part_stays made (Condvars condvars) = within (λ s. Condvars s) (known_stays condvars_known condvars task now made)
   part_stays made (Time time) = same
   part_stays made (Io io) = same
+  part_stays made (Console console) = same
   part_stays made Absent = same
 
   -- the end of a wait in a part where the task has none is refused, and leaves the part
@@ -75,6 +67,7 @@ module _ (task : ℕ) (now : Moment) where
   part_refuses made (Condvars condvars) none = ap (as_part (λ s. Condvars s)) (known_refuses condvars_known condvars task now made none)
   part_refuses made (Time time) none = refl
   part_refuses made (Io io) none = refl
+  part_refuses made (Console console) none = refl
   part_refuses made Absent none = refl
 
   -- the task part refuses the end of a wait in a part that is not there
@@ -84,7 +77,7 @@ module _ (task : ℕ) (now : Moment) where
 
 -- the machine with a part that it has is the machine
 own_part : (state : MachineState) (number : ℕ) → with_part state (part_in number state) ≡ state
-own_part state = by_number (λ n part. with_part state part ≡ state) state refl refl refl refl refl refl refl refl (λ n. refl)
+own_part state = by_number (λ n part. with_part state part ≡ state) state refl refl refl refl refl refl refl refl refl (λ n. refl)
 
 -- a refused call changes nothing
 pub refused_kept : RefusedCallsChangeNothing

@@ -36,3 +36,6 @@ pub mod Shifts
 pub mod NewObjects
 pub mod IoShifts
 pub mod HoldsMade
+pub mod Below
+pub mod ConsoleKnown
+pub mod ConsoleText

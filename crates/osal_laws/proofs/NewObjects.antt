@@ -24,7 +24,7 @@ use Rattle.osal_machine.specs.History.{after_entry}
 use Rattle.osal_laws.specs.Laws.{AreCounted, holds_in}
 use Rattle.osal_laws.specs.Holds.{waits_in}
 use Rattle.osal_laws.proofs.Own.{by_number}
-use Rattle.osal_laws.proofs.PartMoves.{tasks_in, tasks_move, queues_in, queues_move, count_sems_in, count_sems_move, bin_sems_in, bin_sems_move, mutexes_in, mutexes_move, condvars_in, condvars_move, timebases_in, timebases_move, timers_in, timers_move, streams_in, streams_move, systems_in, systems_move, directories_in, directories_move}
+use Rattle.osal_laws.proofs.PartMoves.{tasks_in, tasks_move, queues_in, queues_move, count_sems_in, count_sems_move, bin_sems_in, bin_sems_move, mutexes_in, mutexes_move, condvars_in, condvars_move, timebases_in, timebases_move, timers_in, timers_move, streams_in, streams_move, systems_in, systems_move, directories_in, directories_move, consoles_in, consoles_move}
 use Rattle.osal_laws.proofs.Replays.{entry_moves}
 
 settled_new : {T : Type 0} (table : TableState T) (id : ℕ) (o : Option (Option (List ℕ))) (object : T) (b : Active T) → is_some (active_at table id) ≡ false → active_at (settle table id o (Some object)) id ≡ Some b → b.holds ≡ 0
@@ -99,4 +99,5 @@ module _ (state : MachineState) (entry : Entry) (counted : AreCounted (after_ent
       (either_new (is_of_directory q)
       (move_new q state.io.files.directories _ (entry_moves directories_in directories_move 7 state entry) counted.directories)
       (move_new q state.io.files.systems _ (entry_moves systems_in systems_move 7 state entry) counted.systems)))
+      (move_new q state.console.objects _ (entry_moves consoles_in consoles_move 8 state entry) counted.console)
       (λ n was now. absurd (both_ways false refl now))

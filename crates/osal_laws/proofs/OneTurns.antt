@@ -22,7 +22,7 @@ use Rattle.osal_file.specs.Held.{is_of_directory}
 use Rattle.osal_io.specs.Io.{is_of_stream}
 use Rattle.osal_call.specs.declared.call.Call.{Call}
 use Rattle.osal_call.specs.Call.{part_of, part_of_id}
-use Rattle.osal_machine.specs.Parts.{PartState, Tasks, Queues, CountSems, BinSems, Mutexes, Condvars, Time, Io, Absent, part_step, is_active_in}
+use Rattle.osal_machine.specs.Parts.{PartState, Tasks, Queues, CountSems, BinSems, Mutexes, Condvars, Time, Io, Console, Absent, part_step, is_active_in}
 use Rattle.osal_time.specs.Calls.{time_call}
 use Rattle.osal_machine.specs.Step.{MachineState, part_in, step}
 use Rattle.osal_laws.specs.Steps.{Turns, StepsTurnOne}
@@ -37,6 +37,7 @@ use Rattle.osal_laws.proofs.CondvarKnown.{condvars_known}
 use Rattle.osal_laws.proofs.TimeKnown.{SuitsCall, fits}
 use Rattle.osal_laws.proofs.Suits.{is_holding, suits_fit}
 use Rattle.osal_io.proofs.Known.{io_one}
+use Rattle.osal_laws.proofs.ConsoleKnown.{console_moves}
 
 -- what is active is what was, but for one identifier
 abbrev AllButOne : (ℕ → Bool) → (ℕ → Bool) → Type 0
@@ -102,6 +103,7 @@ part_one (Time time) task now made = time_one time task now (is_holding made) (t
 part_one (Io io) task now made =
     let one = io_one io task now made in
     (one.0, λ q ne. let kept = one.1 q ne in same_choice (is_of_stream q) kept.0 (same_choice (is_of_directory q) kept.1.1 kept.1.0))
+part_one (Console console) task now made = move_one (console_moves console task now made)
 part_one Absent task now made = (0, λ q ne. refl)
 
 module _ (state : MachineState) (task : ℕ) (now : Moment) (made : Call) where

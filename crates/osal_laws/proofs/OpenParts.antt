@@ -4,7 +4,7 @@ use Rattle.std.proofs.lemmas.Bool.{false≢true, or_left, eq-eqb, lt-ltb}
 use Rattle.osal_object.specs.declared.waits.WaitRecord.{WaitRecord}
 use Rattle.osal_object.specs.Waits.{is_of}
 use Rattle.osal_object.proofs.OpenWaits.{found_any}
-use Rattle.osal_machine.specs.Parts.{PartState, Tasks, Queues, CountSems, BinSems, Mutexes, Condvars, Time, Io, Absent}
+use Rattle.osal_machine.specs.Parts.{PartState, Tasks, Queues, CountSems, BinSems, Mutexes, Condvars, Time, Io, Console, Absent}
 use Rattle.osal_machine.specs.OpenWaits.{has_wait, has_waits}
 
 module _ {W : Type 0} where
@@ -26,6 +26,7 @@ waits_there (Mutexes mutexes) some = first_waits mutexes.objects.waits.records s
 waits_there (Condvars condvars) some = first_waits condvars.objects.waits.records some
 waits_there (Time time) some = absurd (false≢true some)
 waits_there (Io io) some = absurd (false≢true some)
+waits_there (Console console) some = absurd (false≢true some)
 waits_there Absent some = absurd (false≢true some)
 
 -- where a task has an open wait in a part, the part has one
@@ -38,4 +39,5 @@ has_there (Mutexes mutexes) task some = some_waits mutexes.objects.waits.records
 has_there (Condvars condvars) task some = some_waits condvars.objects.waits.records task some
 has_there (Time time) task some = absurd (false≢true some)
 has_there (Io io) task some = absurd (false≢true some)
+has_there (Console console) task some = absurd (false≢true some)
 has_there Absent task some = absurd (false≢true some)

@@ -146,6 +146,7 @@ module _ (state : MachineState) (task : ℕ) (now : Moment) (counted : AreCounte
       (known_gives condvars_known state.condvars task now counted.condvars)
       (λ some. absurd (both_ways false refl some))
       (λ some. absurd (both_ways false refl some))
+      (λ some. absurd (both_ways false refl some))
       (λ n some. absurd (both_ways false refl some))
       part
 

@@ -7,15 +7,16 @@ use Rattle.osal_task.specs.Tasks.{TaskState}
 use Rattle.osal_time.specs.Time.{TimeState}
 use Rattle.osal_call.specs.declared.call.Call.{Call}
 use Rattle.osal_call.specs.Call.{part_of}
-use Rattle.osal_machine.specs.Parts.{PartState, Tasks, Queues, CountSems, BinSems, Mutexes, Condvars, Time, Io, Absent, part_step}
+use Rattle.osal_machine.specs.Parts.{PartState, Tasks, Queues, CountSems, BinSems, Mutexes, Condvars, Time, Io, Console, Absent, part_step}
 use Rattle.osal_task.specs.Calls.{task_step}
 use Rattle.osal_time.specs.Calls.{time_step}
+use Rattle.osal_console.specs.Console.{ConsoleState, console_step}
 use Rattle.osal_machine.specs.Step.{MachineState, part_in, with_part, step}
 use Rattle.osal_laws.specs.Laws.{CallsChangeTheirPart}
 
--- the part that eight tests choose, one for each part that is built
-abbrev chosen : Bool → Bool → Bool → Bool → Bool → Bool → Bool → Bool → MachineState → PartState
-chosen tasks queues count_sems bin_sems mutexes condvars time io state =
+-- the part that nine tests choose, one for each part
+abbrev chosen : Bool → Bool → Bool → Bool → Bool → Bool → Bool → Bool → Bool → MachineState → PartState
+chosen tasks queues count_sems bin_sems mutexes condvars time io console state =
     cond tasks (Tasks state.tasks)
     (cond queues (Queues state.queues)
     (cond count_sems (CountSems state.count_sems)
@@ -23,31 +24,33 @@ chosen tasks queues count_sems bin_sems mutexes condvars time io state =
     (cond mutexes (Mutexes state.mutexes)
     (cond condvars (Condvars state.condvars)
     (cond time (Time state.time)
-    (cond io (Io state.io) Absent)))))))
+    (cond io (Io state.io)
+    (cond console (Console state.console) Absent))))))))
 
-own_chosen : (a b c d e f g h : Bool) (state : MachineState) (task : ℕ) (now : Moment) (made : Call) → chosen a b c d e f g h (with_part state (part_step (chosen a b c d e f g h state) task now made).1) ≡ (part_step (chosen a b c d e f g h state) task now made).1
-own_chosen true b c d e f g h state task now made = refl
-own_chosen false true c d e f g h state task now made = refl
-own_chosen false false true d e f g h state task now made = refl
-own_chosen false false false true e f g h state task now made = refl
-own_chosen false false false false true f g h state task now made = refl
-own_chosen false false false false false true g h state task now made = refl
-own_chosen false false false false false false true h state task now made = refl
-own_chosen false false false false false false false true state task now made = refl
-own_chosen false false false false false false false false state task now made = refl
+own_chosen : (a b c d e f g h i : Bool) (state : MachineState) (task : ℕ) (now : Moment) (made : Call) → chosen a b c d e f g h i (with_part state (part_step (chosen a b c d e f g h i state) task now made).1) ≡ (part_step (chosen a b c d e f g h i state) task now made).1
+own_chosen true b c d e f g h i state task now made = refl
+own_chosen false true c d e f g h i state task now made = refl
+own_chosen false false true d e f g h i state task now made = refl
+own_chosen false false false true e f g h i state task now made = refl
+own_chosen false false false false true f g h i state task now made = refl
+own_chosen false false false false false true g h i state task now made = refl
+own_chosen false false false false false false true h i state task now made = refl
+own_chosen false false false false false false false true i state task now made = refl
+own_chosen false false false false false false false false true state task now made = refl
+own_chosen false false false false false false false false false state task now made = refl
 
 -- a call makes a step of its part
 pub own_step : (state : MachineState) (task : ℕ) (now : Moment) (made : Call) → part_in (part_of made) (step state task now made).1 ≡ (part_step (part_in (part_of made) state) task now made).1
 own_step state task now made =
-    own_chosen (nat_eq (part_of made) 0) (nat_eq (part_of made) 1) (nat_eq (part_of made) 2) (nat_eq (part_of made) 3) (nat_eq (part_of made) 4) (nat_eq (part_of made) 5) (nat_eq (part_of made) 6) (nat_eq (part_of made) 7) state task now made
+    own_chosen (nat_eq (part_of made) 0) (nat_eq (part_of made) 1) (nat_eq (part_of made) 2) (nat_eq (part_of made) 3) (nat_eq (part_of made) 4) (nat_eq (part_of made) 5) (nat_eq (part_of made) 6) (nat_eq (part_of made) 7) (nat_eq (part_of made) 8) state task now made
 
 -- a call changes its own part alone
 pub other_kept : CallsChangeTheirPart
 other_kept state task now made part other = grind (arith, nat_tests)
 
 -- what holds of each part under its number holds of the part of any number
-pub by_number : (P : ℕ → PartState → Type 0) (state : MachineState) → P 0 (Tasks state.tasks) → P 1 (Queues state.queues) → P 2 (CountSems state.count_sems) → P 3 (BinSems state.bin_sems) → P 4 (Mutexes state.mutexes) → P 5 (Condvars state.condvars) → P 6 (Time state.time) → P 7 (Io state.io) → ((n : ℕ) → P n Absent) → (part : ℕ) → P part (part_in part state)
-by_number P state tasks queues count_sems bin_sems mutexes condvars time io none part =
+pub by_number : (P : ℕ → PartState → Type 0) (state : MachineState) → P 0 (Tasks state.tasks) → P 1 (Queues state.queues) → P 2 (CountSems state.count_sems) → P 3 (BinSems state.bin_sems) → P 4 (Mutexes state.mutexes) → P 5 (Condvars state.condvars) → P 6 (Time state.time) → P 7 (Io state.io) → P 8 (Console state.console) → ((n : ℕ) → P n Absent) → (part : ℕ) → P part (part_in part state)
+by_number P state tasks queues count_sems bin_sems mutexes condvars time io console none part =
     cond_both (part == 0) _ _ (P part) (λ t. subst (λ n. P n (Tasks state.tasks)) (sym (eqb-true part 0 t)) tasks)
     (λ f. cond_both (part == 1) _ _ (P part) (λ t. subst (λ n. P n (Queues state.queues)) (sym (eqb-true part 1 t)) queues)
     (λ f. cond_both (part == 2) _ _ (P part) (λ t. subst (λ n. P n (CountSems state.count_sems)) (sym (eqb-true part 2 t)) count_sems)
@@ -56,7 +59,8 @@ by_number P state tasks queues count_sems bin_sems mutexes condvars time io none
     (λ f. cond_both (part == 5) _ _ (P part) (λ t. subst (λ n. P n (Condvars state.condvars)) (sym (eqb-true part 5 t)) condvars)
     (λ f. cond_both (part == 6) _ _ (P part) (λ t. subst (λ n. P n (Time state.time)) (sym (eqb-true part 6 t)) time)
     (λ f. cond_both (part == 7) _ _ (P part) (λ t. subst (λ n. P n (Io state.io)) (sym (eqb-true part 7 t)) io)
-    (λ f. none part))))))))
+    (λ f. cond_both (part == 8) _ _ (P part) (λ t. subst (λ n. P n (Console state.console)) (sym (eqb-true part 8 t)) console)
+    (λ f. none part)))))))))
 
 -- the tasks of a part that has them
 abbrev tasks_in : TaskState → PartState → TaskState
@@ -67,6 +71,11 @@ tasks_in other _ = other
 abbrev time_in : TimeState → PartState → TimeState
 time_in other (Time time) = time
 time_in other _ = other
+
+-- the console of a part that has it
+abbrev console_in : ConsoleState → PartState → ConsoleState
+console_in other (Console console) = console
+console_in other _ = other
 
 module _ (state : MachineState) (task : ℕ) (now : Moment) (made : Call) where
   -- a call makes a step of the part of a number that is its own
@@ -89,3 +98,7 @@ module _ (state : MachineState) (task : ℕ) (now : Moment) (made : Call) where
   -- a call leaves the time, or makes a step of the time part
   pub after_time : (P : TimeState → Type 0) → P state.time → P (time_step state.time task now made).1 → P (step state task now made).1.time
   after_time P = after_part 6 (λ part. P (time_in state.time part))
+
+  -- a call leaves the console, or makes a step of it
+  pub after_console : (P : ConsoleState → Type 0) → P state.console → P (console_step state.console task now made).1 → P (step state task now made).1.console
+  after_console P = after_part 8 (λ part. P (console_in state.console part))

@@ -14,7 +14,7 @@ use Rattle.osal_time.specs.declared.timer.Timer.{Timer}
 use Rattle.osal_file.specs.declared.system.FileSystem.{FileSystem}
 use Rattle.osal_io.specs.declared.part.Stream.{Stream}
 use Rattle.osal_call.specs.declared.call.Call.{Call}
-use Rattle.osal_machine.specs.Parts.{PartState, Tasks, Queues, CountSems, BinSems, Mutexes, Condvars, Time, Io, part_step}
+use Rattle.osal_machine.specs.Parts.{PartState, Tasks, Queues, CountSems, BinSems, Mutexes, Condvars, Time, Io, Console, part_step}
 use Rattle.osal_object.proofs.Moves.{IsMove, stays}
 use Rattle.osal_laws.proofs.QueueKnown.{queues_known}
 use Rattle.osal_laws.proofs.Known.{known_moves}
@@ -25,6 +25,7 @@ use Rattle.osal_laws.proofs.BinSemKnown.{bin_sems_known}
 use Rattle.osal_laws.proofs.CondvarKnown.{condvars_known}
 use Rattle.osal_laws.proofs.TimeKnown.{time_moves}
 use Rattle.osal_io.proofs.Known.{io_moves}
+use Rattle.osal_laws.proofs.ConsoleKnown.{console_moves}
 
 -- each call of a part makes one move of the objects of a kind
 abbrev pub EachMoves : {T W : Type 0} → (PartState → ObjectsState T W) → Type 0
@@ -145,3 +146,13 @@ directories_in _ = none
 pub directories_move : EachMoves directories_in
 directories_move (Io io) task now made = (io_moves io task now made).1.1
 directories_move _ task now made = stays none
+
+-- the console's table, in the part that has it
+abbrev pub consoles_in : PartState → ObjectsState (Unit {0}) (Unit {0})
+consoles_in (Console console) = console.objects
+consoles_in _ = none
+
+-- each call makes one move of it
+pub consoles_move : EachMoves consoles_in
+consoles_move (Console console) task now made = console_moves console task now made
+consoles_move _ task now made = stays none

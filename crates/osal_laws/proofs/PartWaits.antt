@@ -12,7 +12,7 @@ use Rattle.osal_object.proofs.WaitSteps.{IsWaitStep, IsWaitEnd, Refuses, goes}
 use Rattle.osal_condvar.specs.declared.condvar.CondvarWait.{CondvarWait}
 use Rattle.osal_call.specs.declared.call.Call.{Call}
 use Rattle.osal_call.specs.declared.call.Call.TheVariants as call
-use Rattle.osal_machine.specs.Parts.{PartState, Tasks, Queues, CountSems, BinSems, Mutexes, Condvars, Time, Io, Absent, absent_reply, part_step}
+use Rattle.osal_machine.specs.Parts.{PartState, Tasks, Queues, CountSems, BinSems, Mutexes, Condvars, Time, Io, Console, Absent, absent_reply, part_step}
 use Rattle.osal_machine.specs.Step.{MachineState, part_in}
 use Rattle.osal_machine.specs.OpenWaits.{has_wait, deadlines_of, WaitsOnce}
 use Rattle.osal_object.proofs.Moves.{IsMove}
@@ -26,6 +26,7 @@ use Rattle.osal_laws.proofs.BinSemKnown.{bin_sems_known}
 use Rattle.osal_laws.proofs.CondvarKnown.{condvars_known}
 use Rattle.osal_laws.proofs.TimeKnown.{time_answers}
 use Rattle.osal_io.proofs.Known.{io_answers}
+use Rattle.osal_laws.proofs.ConsoleKnown.{console_answers}
 use Rattle.osal_call.specs.Signature.{timeout_of, ends_wait}
 
 -- what is seen of the open waits of a part
@@ -42,6 +43,7 @@ of_each P all (Mutexes mutexes) = all ℕ mutexes.objects.waits
 of_each P all (Condvars condvars) = all CondvarWait condvars.objects.waits
 of_each P all (Time time) = all (Unit {0}) (no_waits 0)
 of_each P all (Io io) = all (Unit {0}) (no_waits 0)
+of_each P all (Console console) = all (Unit {0}) (no_waits 0)
 of_each P all Absent = all (Unit {0}) (no_waits 0)
 
 absent_answered : (made : Call) → is_waits (absent_reply made).answer ≡ false
@@ -54,9 +56,6 @@ module _ (task : ℕ) (now : Moment) (made : Call) where
   abbrev Steps : PartState → Replied × PartState → Type 0
   Steps part stepped = IsWaitStep (seen_in part) task (timeout_of made) stepped.0.answer (seen_in stepped.1)
 
-  absent_goes : Steps Absent (part_step Absent task now made)
-  absent_goes = goes (absent_answered made)
-
   -- a call that ends no wait leaves the open waits of a part, or its task waits
   pub part_waits : (part : PartState) → ends_wait made ≡ false → Steps part (part_step part task now made)
   part_waits (Tasks tasks) other = known_waits tasks_known tasks task now made other
@@ -67,7 +66,8 @@ module _ (task : ℕ) (now : Moment) (made : Call) where
   part_waits (Condvars condvars) other = known_waits condvars_known condvars task now made other
   part_waits (Time time) other = goes (time_answers time task now made)
   part_waits (Io io) other = goes (io_answers io task now made)
-  part_waits Absent other = absent_goes
+  part_waits (Console console) other = goes (console_answers console task now made)
+  part_waits Absent other = goes (absent_answered made)
 
   once_by : {T W : Type 0} (other : ℕ) (old new : ObjectsState T W) → IsMove old new → AtMostOne (is_of other) old.waits.records → AtMostOne (is_of other) new.waits.records
   once_by other old new by once =
@@ -83,6 +83,7 @@ module _ (task : ℕ) (now : Moment) (made : Call) where
   part_once (Condvars condvars) other once = once_by other condvars.objects _ (known_moves condvars_known condvars task now made) once
   part_once (Time time) other once = tt
   part_once (Io io) other once = tt
+  part_once (Console console) other once = tt
   part_once Absent other once = tt
 
 module _ (state : MachineState) (task : ℕ) (now : Moment) where
@@ -98,6 +99,7 @@ module _ (state : MachineState) (task : ℕ) (now : Moment) where
       (known_ends condvars_known state.condvars task now)
       (Refuses refl refl)
       (Refuses refl refl)
+      (Refuses refl refl)
       (λ n. Refuses refl refl)
       part
 
@@ -111,6 +113,7 @@ module _ (state : MachineState) (task : ℕ) (now : Moment) where
       (λ some. known_abandons bin_sems_known state.bin_sems task now some)
       (λ some. known_abandons mutexes_known state.mutexes task now some)
       (λ some. known_abandons condvars_known state.condvars task now some)
+      (λ some. absurd (cc))
       (λ some. absurd (cc))
       (λ some. absurd (cc))
       (λ n some. absurd (cc))

@@ -18,7 +18,7 @@ use Rattle.osal_object.specs.ObjectLaws.{holds_of}
 use Rattle.osal_laws.proofs.Histories.{replay_push, replay_split}
 use Rattle.osal_laws.proofs.Own.{after_part, by_number}
 use Rattle.osal_object.proofs.Moves.{IsMove, AreMoves, stays, none_moved, first_moved, is_there, gone_unheld, IsRise, Rises, active_again}
-use Rattle.osal_laws.proofs.PartMoves.{EachMoves, tasks_in, tasks_move, queues_in, queues_move, count_sems_in, count_sems_move, bin_sems_in, bin_sems_move, mutexes_in, mutexes_move, condvars_in, condvars_move, timebases_in, timebases_move, timers_in, timers_move, streams_in, streams_move, systems_in, systems_move, directories_in, directories_move}
+use Rattle.osal_laws.proofs.PartMoves.{EachMoves, tasks_in, tasks_move, queues_in, queues_move, count_sems_in, count_sems_move, bin_sems_in, bin_sems_move, mutexes_in, mutexes_move, condvars_in, condvars_move, timebases_in, timebases_move, timers_in, timers_move, streams_in, streams_move, systems_in, systems_move, directories_in, directories_move, consoles_in, consoles_move}
 
 module _ {T W : Type 0} (objects_in : PartState → ObjectsState T W) (each : EachMoves objects_in) (number : ℕ) where
   -- the objects in the part of the number
@@ -67,6 +67,7 @@ kept_by_number state entry id =
     (none_of_both (is_timer id) (kept_in timers_in timers_move 6 state entry id) (kept_in timebases_in timebases_move 6 state entry id))
     (none_of_both (is_of_stream id) (kept_in streams_in streams_move 7 state entry id)
     (none_of_both (is_of_directory id) (kept_in directories_in directories_move 7 state entry id) (kept_in systems_in systems_move 7 state entry id)))
+    (kept_in consoles_in consoles_move 8 state entry id)
     (λ n gone. refl)
 
 -- what an entry removes has no holds
@@ -99,6 +100,7 @@ rises_by_number id old first between second =
     (rise_of_both (is_timer id) (rises_in timers_in timers_move 6 id old first between second) (rises_in timebases_in timebases_move 6 id old first between second))
     (rise_of_both (is_of_stream id) (rises_in streams_in streams_move 7 id old first between second)
     (rise_of_both (is_of_directory id) (rises_in directories_in directories_move 7 id old first between second) (rises_in systems_in systems_move 7 id old first between second)))
+    (rises_in consoles_in consoles_move 8 id old first between second)
     (λ n was is. absurd (both_ways false refl is))
 
 -- the wrap count rises between two entries that make an identifier active

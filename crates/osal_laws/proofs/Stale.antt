@@ -23,6 +23,7 @@ use Rattle.osal_laws.proofs.BinSemKnown.{bin_sems_known}
 use Rattle.osal_laws.proofs.MutexKnown.{mutexes_known}
 use Rattle.osal_laws.proofs.CondvarKnown.{condvars_known}
 use Rattle.osal_laws.proofs.TimeKnown.{timebases_stale, timers_stale, either_stale}
+use Rattle.osal_laws.proofs.ConsoleKnown.{console_stale}
 use Rattle.osal_io.proofs.Known.{streams_stale, directories_stale, either_stale as any_stale}
 
 -- a call is refused, since its identifier is not active
@@ -49,7 +50,7 @@ ends_none : (made : Call) → EndsNone (ends_wait made) (signature made).subject
 ends_none call.Checkpoint = refl
 ends_none _ = refl
 
--- what a part without objects answers to a hold and to a release
+-- what would be answered to a hold and to a release where no part is
 none_there : (made : Call) (id : ℕ) → (signature made).subject ≡ what.Object what.OfType id → absent_reply made ≡ refusal status.ErrInvalidId
 none_there (call.Hold other) id is = refl
 none_there (call.Release other) id is = refl
@@ -74,6 +75,7 @@ module _ (state : MachineState) (task : ℕ) (now : Moment) (made : Call) (may :
       (λ own gone. known_stale condvars_known state.condvars task now made id ends own on may (none_of (active_at state.condvars.objects.table id) gone))
       (λ own gone. either_stale state.time task now made id is gone)
       (λ own gone. any_stale state.io task now made id is gone)
+      (λ own gone. console_stale state.console task now made id is gone)
       (λ n own gone. none_there made id is)
       (part_of_id id) at none)
 

@@ -11,7 +11,7 @@ use Rattle.osal_call.specs.declared.call.Call.{Call}
 use Rattle.osal_call.specs.declared.call.Call.TheVariants as call
 use Rattle.osal_call.specs.declared.call.Entry.{Entry}
 use Rattle.osal_call.specs.Signature.{part_of_id}
-use Rattle.osal_machine.specs.Parts.{PartState, Tasks, Queues, CountSems, BinSems, Mutexes, Condvars, Time, Io, Absent}
+use Rattle.osal_machine.specs.Parts.{PartState, Tasks, Queues, CountSems, BinSems, Mutexes, Condvars, Time, Io, Console, Absent}
 use Rattle.osal_machine.specs.Step.{MachineState, part_in, is_active}
 use Rattle.osal_machine.specs.History.{IsLegal, after_entry, replay}
 use Rattle.osal_laws.specs.Laws.{MakesActive, holds_in}
@@ -45,6 +45,7 @@ waits_in (Io io) id =
     if is_of_stream id then waits_on io.streams.waits id
     else (if is_of_directory id then waits_on io.files.directories.waits id
     else waits_on io.files.systems.waits id)
+waits_in (Console console) id = waits_on console.objects.waits id
 waits_in Absent id = 0
 
 -- an identifier is active after each of some entries

@@ -28,7 +28,7 @@ use Rattle.osal_call.specs.declared.call.Call.TheVariants as call
 use Rattle.osal_call.specs.declared.call.Entry.{Entry}
 use Rattle.osal_call.specs.Signature.{Subject, Table, signature, subject_of, part_of, part_of_id, is_refused_before, is_wait_end}
 use Rattle.osal_call.specs.Signature as what
-use Rattle.osal_machine.specs.Parts.{PartState, Tasks, Queues, CountSems, BinSems, Mutexes, Condvars, Time, Io, Absent}
+use Rattle.osal_machine.specs.Parts.{PartState, Tasks, Queues, CountSems, BinSems, Mutexes, Condvars, Time, Io, Console, Absent}
 use Rattle.osal_machine.specs.Step.{MachineState, part_in, step, is_active}
 use Rattle.osal_machine.specs.OpenWaits.{has_wait}
 use Rattle.osal_machine.specs.History.{IsLegal, replay, entries_of_part}
@@ -74,7 +74,7 @@ InactiveIdentifiersAreRefused =
     → is_refused_before entry.call ≡ false
     → reply_of entry.reply ≡ refusal status.ErrInvalidId
 
--- the wrap count of an identifier's table of objects in a part; a part without one has none
+-- the wrap count of an identifier's table of objects in a part
 abbrev pub wraps_in : PartState → ℕ → ℕ
 wraps_in (Tasks tasks) id = tasks.objects.table.wraps
 wraps_in (Queues queues) id = queues.objects.table.wraps
@@ -87,6 +87,7 @@ wraps_in (Io io) id =
     if is_of_stream id then io.streams.table.wraps
     else (if is_of_directory id then io.files.directories.table.wraps
     else io.files.systems.table.wraps)
+wraps_in (Console console) id = console.objects.table.wraps
 wraps_in Absent id = 0
 
 -- the wrap count of an identifier's type
@@ -120,6 +121,7 @@ holds_in (Io io) id =
     if is_of_stream id then holds_of (stream_at io id)
     else (if is_of_directory id then holds_of (active_at io.files.directories.table id)
     else holds_of (system_at io.files id))
+holds_in (Console console) id = holds_of (active_at console.objects.table id)
 holds_in Absent id = 0
 
 -- an entry that makes an identifier not active found no holds on it
@@ -171,6 +173,7 @@ pub record AreCounted (state : MachineState) : Type 0 where
   pub streams : IsCounted state.io.streams
   pub systems : IsCounted state.io.files.systems
   pub directories : IsCounted state.io.files.directories
+  pub console : IsCounted state.console.objects
 
 -- in every state of the machine the holds of an object are those of callers and the open waits that stand on it
 abbrev pub ObjectsAreCounted : Type 0
@@ -192,6 +195,7 @@ pub record AreWellFormed (state : MachineState) : Type 0 where
   pub streams : IsWellFormed state.io.streams.table
   pub systems : IsWellFormed state.io.files.systems.table
   pub directories : IsWellFormed state.io.files.directories.table
+  pub console : IsWellFormed state.console.objects.table
 
 -- in every state of the machine the tables are well formed
 abbrev pub TablesAreWellFormed : Type 0

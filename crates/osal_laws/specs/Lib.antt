@@ -5,3 +5,4 @@ pub mod Steps
 pub mod Values
 pub mod Holds
 pub mod QueueLaw
+pub mod ConsoleText

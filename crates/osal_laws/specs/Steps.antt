@@ -9,7 +9,7 @@ use Rattle.osal_object.specs.Waits.{wait_of, stands_on}
 use Rattle.osal_call.specs.declared.call.Call.{Call}
 use Rattle.osal_call.specs.declared.call.Call.TheVariants as call
 use Rattle.osal_call.specs.declared.call.Entry.{Entry}
-use Rattle.osal_machine.specs.Parts.{PartState, Tasks, Queues, CountSems, BinSems, Mutexes, Condvars, Time, Io, Absent}
+use Rattle.osal_machine.specs.Parts.{PartState, Tasks, Queues, CountSems, BinSems, Mutexes, Condvars, Time, Io, Console, Absent}
 use Rattle.osal_machine.specs.Step.{MachineState, part_in, step, is_active}
 use Rattle.osal_machine.specs.OpenWaits.{has_wait}
 use Rattle.osal_machine.specs.History.{replay}
@@ -42,6 +42,7 @@ stands_in (Mutexes mutexes) task id = stands id (wait_of mutexes.objects.waits t
 stands_in (Condvars condvars) task id = stands id (wait_of condvars.objects.waits task)
 stands_in (Time time) task id = false
 stands_in (Io io) task id = false
+stands_in (Console console) task id = false
 stands_in Absent task id = false
 
 -- a task's wait in a part is over: its record is gone, the other tasks wait as before, and each object on which it stood

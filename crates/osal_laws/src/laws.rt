@@ -1,4 +1,5 @@
 //! What holds of every history of the machine, as clauses of functions that do nothing.
+ghost use Rattle.osal_laws.specs.ConsoleText.{ConsoleKeepsItsBytes};
 ghost use Rattle.osal_laws.specs.QueueLaw.{QueuesKeepTheirOrder};
 ghost use Rattle.osal_laws.specs.Steps.{StepsTurnOne, EndedWaitsAreOver};
 ghost use Rattle.osal_laws.specs.Values.{ValuesAreBounded};
@@ -96,6 +97,11 @@ pub fn deleted_tasks_are_gone()
 /// The gets of a queue give the messages that it accepted, in order, each once; the rest is what it holds.
 pub fn queues_keep_their_order()
     ensures { QueuesKeepTheirOrder }
+{}
+
+/// The drains of the console give the bytes of accepted writes, in order, each once; the rest is pending.
+pub fn console_keeps_its_bytes()
+    ensures { ConsoleKeepsItsBytes }
 {}
 
 /// Each timebase has active timers of its own, each once, and each active timer stands in the list of its timebase.

@@ -8,6 +8,7 @@ use Rattle.osal_call.specs.declared.word.CallWord.{CallWord}
 use Rattle.osal_call.specs.declared.word.CallWord.TheVariants as word
 use Rattle.osal_call.specs.declared.word.PathWord.{PathWord}
 use Rattle.osal_call.specs.declared.word.PathsWord.{PathsWord}
+use Rattle.osal_call.specs.declared.word.BareWord.{BareWord}
 use Rattle.osal_line.specs.declared.kind.BodyKind.{BodyKind}
 use Rattle.osal_line.specs.declared.kind.BodyKind.TheVariants as kind
 use Rattle.osal_line.specs.declared.line.ScriptCall.{ScriptCall}
@@ -24,6 +25,8 @@ use Rattle.osal_line.specs.Tasks.{without_register, task_create_of, task_exit_of
 use Rattle.osal_line.specs.Queues.{queue_create_of}
 use Rattle.osal_line.specs.Timers.{timer_add_of, timer_set_of}
 use Rattle.osal_line.specs.Files.{path_call_of, paths_call_of, mkfs_of, opening_of, open_of, lseek_of}
+use Rattle.osal_line.specs.Payload.{payload_of}
+use Rattle.osal_line.specs.Consoles.{bare_call_of}
 use Rattle.osal_line.specs.Grammar.{call_of_words}
 
 -- later lines declare bodies of the numbers from one on and below another
@@ -139,6 +142,10 @@ module _ (Well : ScriptCall → Type 0) where
       bound made (whence_of whence) _ tt (λ from told. well named.0 far from)))
   lseek_made (a ∷ b ∷ c ∷ d ∷ words) registers well = tt
 
+  bare_made : (called : BareWord) (words : List (List ℕ)) (registers : Registers) → Well (script.Bare called) → MakesWell Well (without_register registers (bare_call_of called words))
+  bare_made called [] registers well = λ told. well
+  bare_made called (another ∷ words) registers well = tt
+
   -- what holds of a creation of a task with the body that it names, wherever one was declared
   task_made : (later : List ℕ → Option ℕ) → ((register : ℕ) (name : List ℕ) (body stack priority : ℕ) → (named : List ℕ) → (registers : Registers) → body ≡ (body_number registers (later named)).0 → (body_number registers (later named)).1.undeclared ≡ false → Well (script.TaskCreate register name body stack priority)) → (words : List (List ℕ)) (registers : Registers) → MakesWell Well (task_create_of later words registers)
   task_made later well [] registers = tt
@@ -161,6 +168,7 @@ module _ (Well : ScriptCall → Type 0) where
   others_made later (word.Number called) other well words registers = plain_made Well (λ found. script.Number called found.0 found.1) (λ found. well (script.Number called found.0 found.1) refl) (id_and_number words registers)
   others_made later (word.Path called) other well words registers = path_made called words registers (λ path. well (script.Path called path) refl)
   others_made later (word.Paths called) other well words registers = paths_made called words registers (λ path to. well (script.Paths called path to) refl)
+  others_made later (word.Bare called) other well words registers = bare_made called words registers (well (script.Bare called) refl)
   others_made later word.TaskCreate other well words registers = cc
   others_made later word.TaskExit other well words registers = exit_made words registers (well script.TaskExit refl)
   others_made later word.TaskDelay other well words registers = delay_made words registers (λ n. well (script.TaskDelay n) refl)
@@ -174,6 +182,7 @@ module _ (Well : ScriptCall → Type 0) where
   others_made later word.Read other well words registers = plain_made Well (λ found. script.Read found.0 found.1 found.2) (λ found. well (script.Read found.0 found.1 found.2) refl) (id_and_room words registers)
   others_made later word.Write other well words registers = plain_made Well (λ found. script.Write found.0 found.1) (λ found. well (script.Write found.0 found.1) refl) (id_and_payload words registers)
   others_made later word.Lseek other well words registers = lseek_made words registers (λ id offset whence. well (script.Lseek id offset whence) refl)
+  others_made later word.ConsoleWrite other well words registers = unnamed_made (λ payload. script.ConsoleWrite payload) (λ payload. well (script.ConsoleWrite payload) refl) registers (payload_of words)
 
 module _ (number total : ℕ) where
   -- the body that a creation names

@@ -5,7 +5,7 @@ use Rattle.osal_call.specs.declared.call.Call.TheVariants as call
 use Rattle.osal_call.specs.declared.word.CallWord.{CallWord}
 use Rattle.osal_call.specs.declared.word.CallWord.TheVariants as word
 use Rattle.osal_call.specs.Call.{text_of}
-use Rattle.osal_call.specs.Signature.{object_call, name_call, wait_call, value_call, number_call, path_call, paths_call, word_text}
+use Rattle.osal_call.specs.Signature.{object_call, name_call, wait_call, value_call, number_call, path_call, paths_call, bare_call, word_text}
 use Rattle.osal_line.specs.declared.line.Line.{Line}
 use Rattle.osal_line.specs.declared.line.ScriptCall.{ScriptCall}
 use Rattle.osal_line.specs.declared.line.ScriptCall.TheVariants as script
@@ -19,6 +19,7 @@ call_of (script.Value called register name value) registers = value_call called 
 call_of (script.Number called id number) registers = number_call called (slice_index registers id) number
 call_of (script.Path called path) registers = path_call called (text_of path)
 call_of (script.Paths called path to) registers = paths_call called (text_of path) (text_of to)
+call_of (script.Bare called) registers = bare_call called
 call_of (script.TaskCreate register name body stack priority) registers =
     call.TaskCreate (text_of name) body stack priority
 call_of script.TaskExit registers = call.TaskExit
@@ -34,6 +35,7 @@ call_of (script.Open register path flags access) registers = call.Open (text_of 
 call_of (script.Read id n wait) registers = call.Read (slice_index registers id) n wait
 call_of (script.Write id payload) registers = call.Write (slice_index registers id) (text_of payload)
 call_of (script.Lseek id offset whence) registers = call.Lseek (slice_index registers id) offset whence
+call_of (script.ConsoleWrite payload) registers = call.ConsoleWrite (text_of payload)
 
 -- the call of a line, or the exit where there is none
 abbrev pub call_made : Option Line → List ℕ → Call
@@ -49,6 +51,7 @@ word_of (script.Value called register name value) = word.Value called
 word_of (script.Number called id number) = word.Number called
 word_of (script.Path called path) = word.Path called
 word_of (script.Paths called path to) = word.Paths called
+word_of (script.Bare called) = word.Bare called
 word_of (script.TaskCreate register name body stack priority) = word.TaskCreate
 word_of script.TaskExit = word.TaskExit
 word_of (script.TaskDelay ms) = word.TaskDelay
@@ -62,6 +65,7 @@ word_of (script.Open register path flags access) = word.Open
 word_of (script.Read id n wait) = word.Read
 word_of (script.Write id payload) = word.Write
 word_of (script.Lseek id offset whence) = word.Lseek
+word_of (script.ConsoleWrite payload) = word.ConsoleWrite
 
 -- the name of a line's call
 abbrev pub call_name : ScriptCall → List ℕ

@@ -11,6 +11,7 @@ use Rattle.osal_line.specs.Arguments.{as_call, only_id, only_name, id_and_wait, 
 use Rattle.osal_line.specs.Tasks.{without_register, task_create_of, task_exit_of, task_delay_of}
 use Rattle.osal_line.specs.Queues.{queue_create_of, queue_put_of, queue_get_of}
 use Rattle.osal_line.specs.Timers.{timer_add_of, timer_set_of}
+use Rattle.osal_line.specs.Consoles.{bare_call_of, console_write_of}
 use Rattle.osal_line.specs.Files.{path_call_of, paths_call_of, mkfs_of, open_of, read_of, write_of, lseek_of}
 
 -- the call that a line's arguments make, in the order in which they stand, and the registers with it; later lines
@@ -28,6 +29,7 @@ call_of_words later (word.Number called) words registers =
     as_call (λ found. script.Number called found.0 found.1) (id_and_number words registers)
 call_of_words later (word.Path called) words registers = without_register registers (path_call_of called words)
 call_of_words later (word.Paths called) words registers = without_register registers (paths_call_of called words)
+call_of_words later (word.Bare called) words registers = without_register registers (bare_call_of called words)
 call_of_words later word.TaskCreate words registers = task_create_of (later kind.Task) words registers
 call_of_words later word.TaskExit words registers = without_register registers (task_exit_of words)
 call_of_words later word.TaskDelay words registers = without_register registers (task_delay_of words)
@@ -41,3 +43,4 @@ call_of_words later word.Open words registers = open_of words registers
 call_of_words later word.Read words registers = read_of words registers
 call_of_words later word.Write words registers = write_of words registers
 call_of_words later word.Lseek words registers = lseek_of words registers
+call_of_words later word.ConsoleWrite words registers = without_register registers (console_write_of words)

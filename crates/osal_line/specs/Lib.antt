@@ -15,6 +15,7 @@ pub mod Tasks
 pub mod Queues
 pub mod Timers
 pub mod Files
+pub mod Consoles
 pub mod Grammar
 pub mod Expectation
 pub mod Between

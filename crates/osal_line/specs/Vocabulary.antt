@@ -12,7 +12,7 @@ abbrev pub unbuilt_words : List (List ℕ)
 unbuilt_words =
     codes "socket_open" ∷ codes "socket_bind" ∷ codes "socket_listen" ∷ codes "socket_connect" ∷ codes "socket_accept"
     ∷ codes "socket_send" ∷ codes "socket_recv" ∷ codes "socket_shutdown" ∷ codes "select_one" ∷ codes "select_multi"
-    ∷ codes "console_write" ∷ codes "console_enable" ∷ codes "console_disable" ∷ []
+    ∷ []
 
 -- a word whose lines are not read yet
 abbrev pub unbuilt_word : List ℕ → Option FirstWord

@@ -5,6 +5,7 @@ ghost use Rattle.osal_line.specs.Grammar as grammar;
 
 use crate::ScriptCall;
 use crate::arguments::{id_and_number, id_and_wait, name_and_number, only_id, only_name};
+use crate::consoles::{bare_call_of, console_write_of};
 use crate::declarations::Declarations;
 use crate::files::{lseek_of, mkfs_of, open_of, path_call_of, paths_call_of, read_of, write_of};
 use crate::queues::{queue_create_of, queue_get_of, queue_put_of};
@@ -78,6 +79,7 @@ pub fn call_of_words(
         }
         CallWord::Path(word) => path_call_of(alloc, word, words),
         CallWord::Paths(word) => paths_call_of(alloc, word, words),
+        CallWord::Bare(word) => Ok(bare_call_of(word, words)),
         CallWord::TaskCreate => task_create_of(alloc, words, declared, begun, registers),
         CallWord::TaskExit => Ok(task_exit_of(words)),
         CallWord::TaskDelay => Ok(task_delay_of(words)),
@@ -91,5 +93,6 @@ pub fn call_of_words(
         CallWord::Read => read_of(words, registers),
         CallWord::Write => write_of(alloc, words, registers),
         CallWord::Lseek => lseek_of(words, registers),
+        CallWord::ConsoleWrite => console_write_of(alloc, words),
     }
 }

@@ -3,6 +3,7 @@
 
 mod arguments;
 mod choices;
+mod consoles;
 mod declarations;
 mod expectation;
 mod files;

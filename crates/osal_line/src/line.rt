@@ -8,7 +8,7 @@ ghost use Rattle.osal_line.specs.Held.{registers_after};
 use crate::{Expect, Literal, Register};
 use osal_base::{Access, Answer, OpenFlags, Reply, Timeout, Whence};
 use osal_call::{
-    CallWord, NameWord, NumberWord, ObjectWord, PathWord, PathsWord, ValueWord, WaitWord,
+    BareWord, CallWord, NameWord, NumberWord, ObjectWord, PathWord, PathsWord, ValueWord, WaitWord,
 };
 
 /// A call as a line writes it, by the shape of its arguments: registers stand where identifiers will.
@@ -54,6 +54,10 @@ pub enum ScriptCall {
         word: PathsWord,
         path: Literal,
         to: Literal,
+    },
+    /// A call without arguments.
+    Bare {
+        word: BareWord,
     },
     TaskCreate {
         register: Register,
@@ -128,6 +132,9 @@ pub enum ScriptCall {
         offset: i64,
         whence: Whence,
     },
+    ConsoleWrite {
+        payload: Literal,
+    },
 }
 
 /// A call line.
@@ -152,6 +159,7 @@ impl ScriptCall {
             ScriptCall::Number { word, .. } => CallWord::Number(*word),
             ScriptCall::Path { word, .. } => CallWord::Path(*word),
             ScriptCall::Paths { word, .. } => CallWord::Paths(*word),
+            ScriptCall::Bare { word } => CallWord::Bare(*word),
             ScriptCall::TaskCreate { .. } => CallWord::TaskCreate,
             ScriptCall::TaskExit => CallWord::TaskExit,
             ScriptCall::TaskDelay { .. } => CallWord::TaskDelay,
@@ -165,6 +173,7 @@ impl ScriptCall {
             ScriptCall::Read { .. } => CallWord::Read,
             ScriptCall::Write { .. } => CallWord::Write,
             ScriptCall::Lseek { .. } => CallWord::Lseek,
+            ScriptCall::ConsoleWrite { .. } => CallWord::ConsoleWrite,
         }
     }
 
@@ -191,6 +200,7 @@ impl ScriptCall {
             | ScriptCall::Number { .. }
             | ScriptCall::Path { .. }
             | ScriptCall::Paths { .. }
+            | ScriptCall::Bare { .. }
             | ScriptCall::TaskExit
             | ScriptCall::TaskDelay { .. }
             | ScriptCall::QueuePut { .. }
@@ -199,7 +209,8 @@ impl ScriptCall {
             | ScriptCall::Mkfs { .. }
             | ScriptCall::Read { .. }
             | ScriptCall::Write { .. }
-            | ScriptCall::Lseek { .. } => None,
+            | ScriptCall::Lseek { .. }
+            | ScriptCall::ConsoleWrite { .. } => None,
         }
     }
 

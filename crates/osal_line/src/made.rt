@@ -44,6 +44,7 @@ fn call_of(alloc: Global, call: &ScriptCall, registers: &[u32; 32]) -> Result<Ca
         ScriptCall::Paths { word, path, to } => {
             word.call(path.copied(alloc)?, to.copied(alloc)?)
         }
+        ScriptCall::Bare { word } => word.call(),
         ScriptCall::TaskCreate {
             name,
             body,
@@ -129,6 +130,9 @@ fn call_of(alloc: Global, call: &ScriptCall, registers: &[u32; 32]) -> Result<Ca
             offset: *offset,
             whence: *whence,
         },
+        ScriptCall::ConsoleWrite { payload } => Call::ConsoleWrite {
+            payload: payload.copied(alloc)?,
+        },
     })
 }
 
@@ -159,6 +163,7 @@ pub fn part_made(line: Option<&Line>, registers: &[u32; 32]) -> u32
         | ScriptCall::Read { .. }
         | ScriptCall::Write { .. }
         | ScriptCall::Lseek { .. } => 7,
+        ScriptCall::Bare { .. } | ScriptCall::ConsoleWrite { .. } => 8,
     }
 }
 

@@ -8,7 +8,7 @@ use crate::grammar::FirstWord;
 use osal_call::call_word;
 
 /// The words whose lines are not read yet.
-const UNBUILT: [&str; 13] = [
+const UNBUILT: [&str; 10] = [
     "socket_open",
     "socket_bind",
     "socket_listen",
@@ -19,9 +19,6 @@ const UNBUILT: [&str; 13] = [
     "socket_shutdown",
     "select_one",
     "select_multi",
-    "console_write",
-    "console_enable",
-    "console_disable",
 ];
 
 /// What a line's first word says that the line is.

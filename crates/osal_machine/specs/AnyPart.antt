@@ -1,7 +1,7 @@
 -- What stands behind a part of any kind.
 use Rattle.osal_machine.specs.declared.any.AnyPart.{AnyPart}
 use Rattle.osal_machine.specs.declared.any.AnyPart.TheVariants as any
-use Rattle.osal_machine.specs.Parts.{Tasks, Queues, CountSems, BinSems, Mutexes, Condvars, Time, Io}
+use Rattle.osal_machine.specs.Parts.{Tasks, Queues, CountSems, BinSems, Mutexes, Condvars, Time, Io, Console}
 use Rattle.osal_machine.specs.Views.{PartView, Alone}
 
 -- the part itself
@@ -14,3 +14,4 @@ view_of_any (any.Mutex part) = Alone (Mutexes part)
 view_of_any (any.Condvar part) = Alone (Condvars part)
 view_of_any (any.Time part) = Alone (Time part)
 view_of_any (any.Io part) = Alone (Io part)
+view_of_any (any.Console part) = Alone (Console part)

@@ -15,6 +15,7 @@ pub use Rattle.osal_time.specs.Timers
 pub use Rattle.osal_time.specs.Calls as TimeCalls
 pub use Rattle.osal_io.specs.Io
 pub use Rattle.osal_io.specs.Calls as IoCalls
+pub use Rattle.osal_console.specs.Console
 pub mod Parts
 pub mod Step
 pub mod OpenWaits

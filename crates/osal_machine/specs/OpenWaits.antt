@@ -4,7 +4,7 @@ use Rattle.osal_base.specs.declared.time.Moment.{Moment}
 use Rattle.osal_idtable.specs.Sound.{AtMostOne}
 use Rattle.osal_object.specs.Waits.{is_of, wait_of}
 use Rattle.osal_object.specs.Deadlines.{deadlines_in}
-use Rattle.osal_machine.specs.Parts.{PartState, Tasks, Queues, CountSems, BinSems, Mutexes, Condvars, Time, Io, Absent}
+use Rattle.osal_machine.specs.Parts.{PartState, Tasks, Queues, CountSems, BinSems, Mutexes, Condvars, Time, Io, Console, Absent}
 
 -- the numbers of the parts
 abbrev pub part_numbers : List ℕ
@@ -20,6 +20,7 @@ has_wait (Mutexes mutexes) task = is_some (wait_of mutexes.objects.waits task)
 has_wait (Condvars condvars) task = is_some (wait_of condvars.objects.waits task)
 has_wait (Time time) task = false
 has_wait (Io io) task = false
+has_wait (Console console) task = false
 has_wait Absent task = false
 
 -- whether any task has an open wait in a part
@@ -32,6 +33,7 @@ has_waits (Mutexes mutexes) = nat_lt 0 (length mutexes.objects.waits.records)
 has_waits (Condvars condvars) = nat_lt 0 (length condvars.objects.waits.records)
 has_waits (Time time) = false
 has_waits (Io io) = false
+has_waits (Console console) = false
 has_waits Absent = false
 
 -- a task has at most one open wait in a part
@@ -44,6 +46,7 @@ WaitsOnce (Mutexes mutexes) task = AtMostOne (is_of task) mutexes.objects.waits.
 WaitsOnce (Condvars condvars) task = AtMostOne (is_of task) condvars.objects.waits.records
 WaitsOnce (Time time) task = Unit {0}
 WaitsOnce (Io io) task = Unit {0}
+WaitsOnce (Console console) task = Unit {0}
 WaitsOnce Absent task = Unit {0}
 
 -- the deadlines of a part's open waits that lie behind a moment
@@ -56,4 +59,5 @@ deadlines_of now (Mutexes mutexes) = deadlines_in now mutexes.objects.waits.reco
 deadlines_of now (Condvars condvars) = deadlines_in now condvars.objects.waits.records
 deadlines_of now (Time time) = []
 deadlines_of now (Io io) = []
+deadlines_of now (Console console) = []
 deadlines_of now Absent = []

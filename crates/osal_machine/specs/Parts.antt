@@ -1,7 +1,7 @@
 -- The parts of the machine.
 use Rattle.std.specs.Prelude.{ℕ, Bool, false, is_some}
-use Rattle.osal_base.specs.declared.status.Status.TheVariants as status
 use Rattle.osal_base.specs.declared.time.Moment.{Moment}
+use Rattle.osal_base.specs.declared.status.Status.TheVariants as status
 use Rattle.osal_base.specs.Reply.{Replied, refusal}
 use Rattle.osal_task.specs.Tasks as of_tasks
 use Rattle.osal_task.specs.Tasks.{TaskState, task_at}
@@ -17,10 +17,12 @@ use Rattle.osal_time.specs.Calls.{time_step}
 use Rattle.osal_io.specs.Io as of_io
 use Rattle.osal_io.specs.Io.{IoState}
 use Rattle.osal_io.specs.Calls.{io_step}
+use Rattle.osal_console.specs.Console as of_console
+use Rattle.osal_console.specs.Console.{ConsoleState, console_step}
 use Rattle.osal_call.specs.declared.call.Call.{Call}
 use Rattle.osal_call.specs.declared.call.Call.TheVariants as call
 
--- the state of one part; a part that is not built is absent
+-- the state of one part; no part has a number above 8
 pub data PartState : Type 0 where
   Tasks : TaskState → PartState
   Queues : QueueState → PartState
@@ -30,9 +32,10 @@ pub data PartState : Type 0 where
   Condvars : CondvarState → PartState
   Time : TimeState → PartState
   Io : IoState → PartState
+  Console : ConsoleState → PartState
   Absent : PartState
 
--- what a part without objects and waits answers: no identifier is active, and no task waits
+-- what would be answered where no part is: no identifier is active, and no task waits
 abbrev pub absent_reply : Call → Replied
 absent_reply (call.Hold id) = refusal status.ErrInvalidId
 absent_reply (call.Release id) = refusal status.ErrInvalidId
@@ -52,6 +55,7 @@ part_step (Mutexes mutexes) task now made = as_part (λ s. Mutexes s) (mutex_ste
 part_step (Condvars condvars) task now made = as_part (λ s. Condvars s) (condvar_step condvars task now made)
 part_step (Time time) task now made = as_part (λ s. Time s) (time_step time task now made)
 part_step (Io io) task now made = as_part (λ s. Io s) (io_step io task now made)
+part_step (Console console) task now made = as_part (λ s. Console s) (console_step console task now made)
 part_step Absent task now made = (absent_reply made, Absent)
 
 -- whether an identifier is active in a part
@@ -64,6 +68,7 @@ is_active_in (Mutexes mutexes) id = is_some (mutex_at mutexes id)
 is_active_in (Condvars condvars) id = is_some (condvar_at condvars id)
 is_active_in (Time time) id = of_time.is_active time id
 is_active_in (Io io) id = of_io.is_active io id
+is_active_in (Console console) id = of_console.is_active console id
 is_active_in Absent id = false
 
 -- whether a task is active in a part and not marked for deletion: only the task part has tasks

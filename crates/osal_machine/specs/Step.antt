@@ -11,12 +11,13 @@ use Rattle.osal_mutex.specs.Mutexes.{MutexState, no_mutexes}
 use Rattle.osal_condvar.specs.Condvars.{CondvarState, no_condvars}
 use Rattle.osal_time.specs.Time.{TimeState, time_start}
 use Rattle.osal_io.specs.Io.{IoState, no_io}
+use Rattle.osal_console.specs.Console.{ConsoleState, empty_console}
 use Rattle.osal_call.specs.Call.{part_of, part_of_id}
-use Rattle.osal_machine.specs.Parts.{PartState, Tasks, Queues, CountSems, BinSems, Mutexes, Condvars, Time, Io, Absent, part_step, is_active_in}
+use Rattle.osal_machine.specs.Parts.{PartState, Tasks, Queues, CountSems, BinSems, Mutexes, Condvars, Time, Io, Console, Absent, part_step, is_active_in}
 use Rattle.osal_call.specs.declared.call.Call.{Call}
 use Rattle.osal_call.specs.declared.call.Call.TheVariants as call
 
--- the states of the parts that are built
+-- the states of the parts
 pub record MachineState : Type 0 where
   pub tasks : TaskState
   pub queues : QueueState
@@ -26,8 +27,9 @@ pub record MachineState : Type 0 where
   pub condvars : CondvarState
   pub time : TimeState
   pub io : IoState
+  pub console : ConsoleState
 
--- no objects, at the start of time
+-- no objects but the console, at the start of time
 abbrev pub opening : Limits → MachineState
 opening limits = record {
   tasks = no_tasks limits;
@@ -38,6 +40,7 @@ opening limits = record {
   condvars = no_condvars limits;
   time = time_start limits;
   io = no_io limits;
+  console = empty_console limits;
 }
 
 -- the part of that number
@@ -51,7 +54,8 @@ part_in part state =
     else (if part == 5 then Condvars state.condvars
     else (if part == 6 then Time state.time
     else (if part == 7 then Io state.io
-    else Absent)))))))
+    else (if part == 8 then Console state.console
+    else Absent))))))))
 
 -- the machine with another state of a part
 abbrev pub with_part : MachineState → PartState → MachineState
@@ -63,6 +67,7 @@ with_part state (Mutexes mutexes) = record state { mutexes = mutexes }
 with_part state (Condvars condvars) = record state { condvars = condvars }
 with_part state (Time time) = record state { time = time }
 with_part state (Io io) = record state { io = io }
+with_part state (Console console) = record state { console = console }
 with_part state Absent = state
 
 -- a part's call changes that part alone

@@ -4,7 +4,7 @@ use Rattle.osal_base.specs.declared.time.Moment.{Moment}
 use Rattle.osal_base.specs.Reply.{Replied, is_waits}
 use Rattle.osal_task.specs.Tasks.{goes}
 use Rattle.osal_call.specs.Call.{part_of}
-use Rattle.osal_machine.specs.Parts.{PartState, Tasks, Queues, CountSems, BinSems, Mutexes, Condvars, Time, Io, Absent, part_step, is_active_in, goes_in}
+use Rattle.osal_machine.specs.Parts.{PartState, Tasks, Queues, CountSems, BinSems, Mutexes, Condvars, Time, Io, Console, Absent, part_step, is_active_in, goes_in}
 use Rattle.osal_machine.specs.Step.{MachineState, step, is_active}
 use Rattle.osal_call.specs.declared.call.Call.{Call}
 use Rattle.osal_call.specs.declared.call.Call.TheVariants as call
@@ -24,6 +24,7 @@ is_part (Mutexes mutexes) part = part == 4
 is_part (Condvars condvars) part = part == 5
 is_part (Time time) part = part == 6
 is_part (Io io) part = part == 7
+is_part (Console console) part = part == 8
 is_part Absent part = false
 
 -- whether a call is one of the part's own; the whole machine has every call

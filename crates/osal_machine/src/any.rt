@@ -8,6 +8,7 @@ use crate::Part;
 use osal_base::{Ack, Moment, OsalId, OutOfMemory, Room};
 use osal_call::Call;
 use osal_condvar::CondvarPart;
+use osal_console::ConsolePart;
 use osal_io::IoPart;
 use osal_mutex::MutexPart;
 use osal_queue::QueuePart;
@@ -27,6 +28,7 @@ pub enum AnyPart {
     Condvar(CondvarPart),
     Time(TimePart),
     Io(IoPart),
+    Console(ConsolePart),
 }
 
 impl Part for AnyPart {
@@ -49,6 +51,7 @@ impl Part for AnyPart {
             AnyPart::Condvar(part) => part.apply(alloc, task, now, call, room),
             AnyPart::Time(part) => part.apply(alloc, task, now, call, room),
             AnyPart::Io(part) => part.apply(alloc, task, now, call, room),
+            AnyPart::Console(part) => part.apply(alloc, task, now, call, room),
         }
     }
 
@@ -62,6 +65,7 @@ impl Part for AnyPart {
             AnyPart::Condvar(own) => own.ready(task, now, part),
             AnyPart::Time(own) => own.ready(task, now, part),
             AnyPart::Io(own) => own.ready(task, now, part),
+            AnyPart::Console(own) => own.ready(task, now, part),
         }
     }
 
@@ -75,6 +79,7 @@ impl Part for AnyPart {
             AnyPart::Condvar(part) => part.active(id),
             AnyPart::Time(part) => part.active(id),
             AnyPart::Io(part) => part.active(id),
+            AnyPart::Console(part) => part.active(id),
         }
     }
 

@@ -4,15 +4,16 @@ ghost use Rattle.osal_base.specs.Limits.{Fits};
 ghost use Rattle.osal_base.specs.Reply.{replied, success};
 ghost use Rattle.osal_task.specs.Tasks.{goes};
 ghost use Rattle.osal_call.specs.Call.{takes_memory};
+ghost use Rattle.osal_console.specs.Console.{is_pending};
 ghost use Rattle.osal_machine.specs.Step.{opening, step, is_ready, is_active};
 ghost use Rattle.osal_machine.specs.Deadlines.{next_deadline};
 ghost use Rattle.osal_machine.specs.Views.{All};
 
 use crate::Part;
-use crate::parts::absent;
 use osal_base::{Ack, Limits, Moment, OsalId, OutOfMemory, Room};
 use osal_call::{Call, part_of, part_of_id};
 use osal_condvar::CondvarPart;
+use osal_console::ConsolePart;
 use osal_io::IoPart;
 use osal_mutex::MutexPart;
 use osal_object::sooner;
@@ -34,6 +35,7 @@ pub struct Whole {
     condvars: CondvarPart,
     time: TimePart,
     io: IoPart,
+    console: ConsolePart,
 }
 
 impl Model for Whole {
@@ -46,13 +48,13 @@ impl Model for Whole {
 
     ghost coded = { Prim.hlevel (codes, objects_code, of_io.the_row.coded) };
 
-    ghost view = { λ a. record { tasks = a.tasks; queues = a.queues; count_sems = a.count_sems; bin_sems = a.bin_sems; mutexes = a.mutexes; condvars = a.condvars; time = a.time; io = a.io } };
+    ghost view = { λ a. record { tasks = a.tasks; queues = a.queues; count_sems = a.count_sems; bin_sems = a.bin_sems; mutexes = a.mutexes; condvars = a.condvars; time = a.time; io = a.io; console = a.console } };
 
     ghost invariant = { λ a. Unit {0} };
 }
 
 impl Whole {
-    /// A machine without objects, which has taken the memory for its tables.
+    /// A machine without objects but the console, which has taken the memory for its tables.
     pub fn open(alloc: Global, limits: &Limits) -> Result<Whole, OutOfMemory>
         requires { Fits limits.now }
         ensures { IfOk result (λ whole. whole ≡ opening limits.now) }
@@ -60,7 +62,7 @@ impl Whole {
         let (tasks, queues) = open_tasks_and_queues(alloc, limits)?;
         let (count_sems, bin_sems, mutexes) = open_locks(alloc, limits)?;
         let (condvars, time) = open_condvars_and_time(alloc, limits)?;
-        let io = IoPart::open(alloc, limits)?;
+        let (io, console) = open_io_and_console(alloc, limits)?;
         Ok(Whole {
             tasks,
             queues,
@@ -70,6 +72,7 @@ impl Whole {
             condvars,
             time,
             io,
+            console,
         })
     }
 
@@ -99,10 +102,7 @@ impl Whole {
             5 => Part::apply(&mut self.condvars, alloc, task, now, call, room),
             6 => Part::apply(&mut self.time, alloc, task, now, call, room),
             7 => Part::apply(&mut self.io, alloc, task, now, call, room),
-            _ => {
-                room.clear();
-                Ok(absent(call))
-            }
+            _ => Part::apply(&mut self.console, alloc, task, now, call, room),
         }
     }
 
@@ -134,7 +134,7 @@ impl Whole {
             5 => self.condvars.active(id),
             6 => self.time.active(id),
             7 => self.io.active(id),
-            _ => false,
+            _ => self.console.active(id),
         }
     }
 
@@ -150,6 +150,13 @@ impl Whole {
         ensures { result ≡ self.now.time.moment }
     {
         self.time.moment()
+    }
+
+    /// Whether bytes are pending on the console.
+    pub fn is_console_pending(&self) -> bool
+        ensures { result ≡ is_pending self.now.console }
+    {
+        self.console.is_pending()
     }
 
     /// The least deadline of an open wait behind the moment, in milliseconds, if there is one. It looks at each wait.
@@ -211,6 +218,17 @@ fn open_condvars_and_time(
     Ok((
         CondvarPart::open(alloc, limits)?,
         TimePart::open(alloc, limits)?,
+    ))
+}
+
+fn open_io_and_console(alloc: Global, limits: &Limits) -> Result<(IoPart, ConsolePart), OutOfMemory>
+    requires { Fits limits.now }
+    ensures io { IfOk result (λ opened. opened.0 ≡ (opening limits.now).io) }
+    ensures console { IfOk result (λ opened. opened.1 ≡ (opening limits.now).console) }
+{
+    Ok((
+        IoPart::open(alloc, limits)?,
+        ConsolePart::open(alloc, limits)?,
     ))
 }
 

@@ -1,6 +1,8 @@
 //! Which part each identifier and wait is of, and what the machine answers for each part.
 
-use osal_base::Status::{ErrIncorrectObjState, ErrInvalidId, ErrObjectInUse, Error};
+use osal_base::Status::{
+    ErrIncorrectObjState, ErrInvalidId, ErrInvalidSize, ErrObjectInUse, Error,
+};
 use osal_base::{Answer, Bytes, Limits, Moment, OsalId, OutOfMemory, Reply, Room, Status};
 use osal_call::{Call, Entry, Journal, part_of};
 use osal_machine::{AnyPart, Part, Whole};
@@ -101,6 +103,30 @@ fn refuse_all<R: Abort + AllocGlobal>(rt: &R, whole: &mut Whole) {
     ] {
         assert!(rt; refuses_the_hold(rt.alloc(), whole, raw), "{raw}");
     }
+}
+
+const CONSOLE: u32 = 0x000c_0001;
+
+// The console is active, is held and released, and gives 1 to 1,024 bytes. The machine is lent, as its drop is long.
+fn ask_console<R: Abort + AllocGlobal>(rt: &R, whole: &mut Whole) {
+    let id = OsalId::of_raw(CONSOLE);
+    assert!(rt; whole.active(id));
+    let held = answers(rt.alloc(), whole, Call::Hold { id }, Answer::Code(0));
+    let released = answers(rt.alloc(), whole, Call::Release { id }, Answer::Code(0));
+    assert!(rt; held && released);
+    for n in [0, 1025] {
+        let want = refused(ErrInvalidSize);
+        assert!(rt; answers(rt.alloc(), whole, Call::Drain { n }, want), "{n}");
+    }
+    let none = answers(rt.alloc(), whole, Call::Drain { n: 1024 }, Answer::Code(0));
+    assert!(rt; none);
+}
+
+#[test]
+fn the_console_is_there_from_the_start(rt: HostRuntime) -> Result<(), Fail> {
+    let mut whole = Whole::open(rt.alloc(), &Limits::version1())?;
+    ask_console(&rt, &mut whole);
+    Ok(())
 }
 
 #[test]

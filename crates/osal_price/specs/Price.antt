@@ -19,7 +19,8 @@ pub record Prices : Type 0 where
   pub tick : ℕ
 
 -- what a call line costs beside its checkpoint and its call: its wait, each 64 bytes of a payload or of the room for
--- bytes, the entries beside a task's scripts and its body, the handlers that a tick runs
+-- bytes, the entries beside a task's scripts and its body, the handlers that a tick runs, the drains of what is written to
+-- the console
 abbrev pub more_cost : Prices → ScriptCall → ℕ
 more_cost prices (script.Object called id) = wait_cost (timeout_of (object_call called 0))
 more_cost prices (script.Wait called id wait) = wait_cost wait
@@ -30,6 +31,7 @@ more_cost prices (script.QueuePut id payload) = length payload / 64
 more_cost prices (script.QueueGet id n wait) = wait_cost wait + n / 64
 more_cost prices (script.Read id n wait) = wait_cost wait + n / 64
 more_cost prices (script.Write id payload) = length payload / 64
+more_cost prices (script.ConsoleWrite payload) = 2 + length payload / 64
 more_cost prices other = 0
 
 -- the cost of a call line

@@ -28,6 +28,7 @@ pub fn needs_task(call: CallWord) -> bool
         | CallWord::Value(_)
         | CallWord::Path(_)
         | CallWord::Paths(_)
+        | CallWord::Bare(_)
         | CallWord::QueueCreate
         | CallWord::QueuePut
         | CallWord::QueueGet
@@ -37,7 +38,8 @@ pub fn needs_task(call: CallWord) -> bool
         | CallWord::Open
         | CallWord::Read
         | CallWord::Write
-        | CallWord::Lseek => false,
+        | CallWord::Lseek
+        | CallWord::ConsoleWrite => false,
     }
 }
 

@@ -62,6 +62,7 @@ fn more_cost(prices: &Prices, call: &ScriptCall) -> u64
         ScriptCall::QueuePut { payload, .. } | ScriptCall::Write { payload, .. } => {
             payload.as_slice().len() as u64 / 64
         }
+        ScriptCall::ConsoleWrite { payload } => 2 + payload.as_slice().len() as u64 / 64,
         ScriptCall::QueueGet { n, wait, .. } | ScriptCall::Read { n, wait, .. } => {
             wait_cost(*wait) + u64::from(*n / 64)
         }
@@ -70,6 +71,7 @@ fn more_cost(prices: &Prices, call: &ScriptCall) -> u64
         | ScriptCall::Number { .. }
         | ScriptCall::Path { .. }
         | ScriptCall::Paths { .. }
+        | ScriptCall::Bare { .. }
         | ScriptCall::TaskExit
         | ScriptCall::QueueCreate { .. }
         | ScriptCall::TimerAdd { .. }

@@ -1,11 +1,10 @@
 -- Messages in one run of bytes: what they are after one more behind them, and without the first.
-use Rattle.std.proofs.Common.{◌≡◌, ◌<◌, ◌≤◌, ◌+◌, ◌-◌, ◌*◌, ℕ, zero, suc, List, [], ◌∷◌, ◌++◌, length, take, drop, Some, slice_get, refl, ap, arith, length-drop}
+use Rattle.std.proofs.Common.{◌≡◌, ◌<◌, ◌≤◌, ◌+◌, ◌*◌, ℕ, List, [], ◌∷◌, ◌++◌, length, take, drop, Some, slice_get, refl, arith, length-drop}
 use Rattle.std.specs.List.{All, sum}
-use Rattle.std.proofs.Math.Seq.{take-length, take-nil}
+use Rattle.std.proofs.Math.Seq.{take-length}
 use Rattle.std.proofs.Math.Nat.{mul-le-mul_right, add-mul}
 use Rattle.std.proofs.lemmas.List.{take-append-le, drop-append-le}
 use Rattle.std.proofs.lemmas.List.Sums.{sum_by-cons, sum_by-le}
-use Rattle.circular_buffer.specs.Buffer.{keep_last}
 use Rattle.osal_queue.specs.Stored.{cut}
 
 -- there are as many messages as lengths
@@ -44,22 +43,3 @@ room_for_one lengths size depth bytes message whole each room fits =
     let most : sum lengths ≤ length lengths * size = sum_by-le (λ x. x) size lengths each in
     let one_more : (length lengths + 1) * size ≤ depth * size = mul-le-mul_right size (omega arith) in
     omega (arith, add-mul (length lengths) 1 size)
-
--- a ring keeps all of what it has room for
-pub keep_all : (n : ℕ) (items : List ℕ) → length items ≤ n → keep_last n items ≡ items
-keep_all n items room =
-    let none : length items - n ≡ 0 = omega arith in
-    rw none refl
-
--- the first of the items of two runs: those of the first run, and behind them what is left
-pub take-runs : (n : ℕ) (front back : List ℕ) → take n (front ++ back) ≡ take n front ++ take (n - length front) back
-take-runs n [] back =
-    let all : n - length {A = ℕ} [] ≡ n = omega arith in
-    let none : take {A = ℕ} n [] ≡ [] = take-nil n in
-    rw (all, none) refl
-take-runs zero (x ∷ front) back =
-    let none : 0 - length (x ∷ front) ≡ 0 = omega arith in
-    rw none refl
-take-runs (suc n) (x ∷ front) back =
-    let same : suc n - length (x ∷ front) ≡ n - length front = omega arith in
-    rw same (ap (λ l. x ∷ l) (take-runs n front back))

@@ -15,12 +15,12 @@ queue_of inside = record {
   depth = inside.depth;
   size = inside.size;
   creator = inside.creator;
-  messages = cut inside.lengths.items inside.bytes.items;
+  messages = cut inside.lengths.items inside.bytes.bytes;
 }
 
 -- the lengths are those of messages that fit and that make up the bytes, and each ring has room for a full queue
 pub record IsStored (inside : Inside) : Type 0 where
-  pub whole : sum inside.lengths.items ≡ length inside.bytes.items
+  pub whole : sum inside.lengths.items ≡ length inside.bytes.bytes
   pub each : All (λ n. n ≤ inside.size) inside.lengths.items
   pub room : inside.bytes.capacity ≡ inside.depth * inside.size
   pub places : inside.lengths.capacity ≡ inside.depth

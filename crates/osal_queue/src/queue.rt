@@ -1,9 +1,10 @@
 //! One queue of messages.
-ghost use Rattle.std.specs.Prelude.{◌≡◌, ◌+◌, ◌<◌, ◌≤◌, ◌==◌, ◌++◌, [], length, take, nat_le, IfOk, IsTrue};
+ghost use Rattle.std.specs.Prelude.{◌≡◌, ◌<◌, ◌≤◌, ◌==◌, [], length, nat_le, IfOk, IsTrue};
 ghost use Rattle.osal_queue.specs.Queue.{may_be_sized, empty_queue, with_message, with_first};
 
 use circular_buffer::HeapCircularBuffer;
 use osal_base::{OsalId, OutOfMemory, Room};
+use osal_ring::Ring;
 use std::alloc::Global;
 use std::marker::Model;
 
@@ -18,7 +19,7 @@ const SIZE_LIMIT: u32 = 1024;
 /// Each message is copied once on its way in and once on its way out, at a cost that does not depend on the depth.
 #[derive(Drop)]
 pub struct Queue {
-    bytes: HeapCircularBuffer<u8>,
+    bytes: Ring,
     lengths: HeapCircularBuffer<u16>,
     depth: u32,
     size: u32,
@@ -50,7 +51,7 @@ impl Queue {
         requires { IsTrue (may_be_sized depth size) }
         ensures { IfOk result (λ queue. queue ≡ empty_queue depth size creator) }
     {
-        let bytes = HeapCircularBuffer::with_capacity(alloc, (depth * size) as usize)?;
+        let bytes = Ring::new(alloc, depth * size)?;
         let lengths = HeapCircularBuffer::with_capacity(alloc, depth as usize)?;
         Ok(Queue {
             bytes,
@@ -102,7 +103,7 @@ impl Queue {
         requires room { length self.old.messages < self.old.depth }
         ensures { self.new ≡ with_message self.old message.now }
     {
-        self.bytes.fill_from_slice(message);
+        self.bytes.put(message);
         self.lengths.push_back(message.len() as u16);
     }
 
@@ -113,19 +114,6 @@ impl Queue {
         ensures { self.old ≡ with_first room.new self.new }
     {
         let length = usize::from(self.lengths.pop_front().unwrap());
-        append_front(room, &self.bytes, length);
-        self.bytes.truncate_front(self.bytes.len() - length);
+        self.bytes.take(length, room);
     }
-}
-
-// Appends the first bytes of a ring, which may lie in two runs.
-fn append_front(room: &mut Room, bytes: &HeapCircularBuffer<u8>, count: usize)
-    requires there { count ≤ length bytes.now.items }
-    requires room { length room.old + count ≤ 1024 }
-    ensures { room.new ≡ room.old ++ take count bytes.now.items }
-{
-    let (front, back) = bytes.as_slices();
-    let in_front = count.min(front.len());
-    room.append(&front[..in_front]);
-    room.append(&back[..count - in_front]);
 }

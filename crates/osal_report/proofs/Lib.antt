@@ -6,6 +6,5 @@ pub mod Ended
 pub mod Reading
 pub mod Waits
 pub mod Statuses
-pub mod Spelled
 pub mod Worked
 pub mod Rooms

@@ -2,7 +2,7 @@
 use Rattle.std.proofs.Common.{◌≡◌, [], ◌∷◌, refl}
 use Rattle.std.specs.Prelude.{codes, negsuc}
 use Rattle.std.specs.Fmt.{digits}
-use Rattle.osal_report.specs.Spelling.{id_text, code_text, quoted}
+use Rattle.osal_spelling.specs.Spelling.{id_text, code_text, quoted}
 use Rattle.osal_report.specs.Report.{stall_line, segment_name, counts_text, end_text}
 
 -- an identifier has eight digits in lower case

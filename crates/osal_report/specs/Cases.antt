@@ -20,7 +20,7 @@ use Rattle.osal_script.specs.declared.phase.Phase.{Phase}
 use Rattle.osal_script.specs.declared.phase.Phase.TheVariants as phase
 use Rattle.osal_script.specs.Script.{Pending, ScriptState, start_of, is_checkpoint, after_entry}
 use Rattle.osal_runs.specs.Segments.{Segment}
-use Rattle.osal_report.specs.Spelling.{id_text, code_text, answer_text, quoted}
+use Rattle.osal_spelling.specs.Spelling.{id_text, code_text, answer_text, quoted}
 
 -- whether a call gives an identifier: those that set a register do
 abbrev pub gives_id : ScriptCall → Bool

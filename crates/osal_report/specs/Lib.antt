@@ -1,7 +1,7 @@
 pub use Rattle.osal_script.specs.App
 pub use Rattle.osal_script.specs.Script
 pub use Rattle.osal_runs.specs.Runs
-pub mod Spelling
+pub use Rattle.osal_spelling.specs.Spelling
 pub mod Cases
 pub mod Report
 pub mod Draft

@@ -9,7 +9,7 @@ use Rattle.osal_script.specs.declared.phase.Phase.TheVariants as phase
 use Rattle.osal_script.specs.App.{Application}
 use Rattle.osal_script.specs.Script.{Pending}
 use Rattle.osal_runs.specs.Segments.{Segment, script_in, segments_of}
-use Rattle.osal_report.specs.Spelling.{id_text}
+use Rattle.osal_spelling.specs.Spelling.{id_text}
 use Rattle.osal_line.specs.Calls.{call_name}
 use Rattle.osal_report.specs.Cases.{cases_of, cases_text, passed, failed}
 

@@ -8,7 +8,12 @@ use Rattle.osal_machine.specs.OpenWaits.{part_numbers, has_waits}
 use Rattle.osal_machine.specs.History.{replay}
 use Rattle.osal_script.specs.App.{Application}
 use Rattle.osal_runs.specs.Segments.{segments_of}
+use Rattle.osal_report.specs.declared.status.End.{End}
 use Rattle.osal_report.specs.Report.{all_failed}
+
+-- the status of a journal whose scripts end so
+abbrev pub end_status : End → ℕ
+end_status end = if end.stalled then 3 else (if end.fails then 1 else 0)
 
 -- whether some wait is open
 abbrev pub has_open_waits : MachineState → Bool

@@ -5,10 +5,9 @@ ghost use Rattle.osal_line.specs.Calls.{call_name as name_of_call};
 ghost use Rattle.osal_base.specs.Reply.{reply_of};
 ghost use Rattle.osal_report.specs.Cases.{counts as does_count, code_in, answer_in, gives_id as gives, number_text, is_code as is_code_of, is_value as is_value_of, passes as passes_case, got_value, wanted_value, case_text};
 
-use crate::spelling::{push_answer, push_bytes, push_code, push_decimal, push_id, push_quoted};
 use osal_base::{Answer, OutOfMemory, Reply};
 use osal_script::{Expect, Line, ScriptCall, Value};
-use std::alloc::Global;
+use osal_spelling::{push_answer, push_bytes, push_code, push_decimal, push_id, push_quoted};
 
 /// Whether a call gives an identifier.
 fn gives_id(call: &ScriptCall) -> bool
@@ -28,48 +27,33 @@ fn counts(call: &ScriptCall) -> bool
 }
 
 /// Appends a code as a call's line spells it: a count of none is `0`.
-fn push_code_in(
-    alloc: Global,
-    out: &mut Vec<u8>,
-    call: &ScriptCall,
-    code: i32,
-) -> Result<(), OutOfMemory>
+fn push_code_in(out: &mut Vec<u8>, call: &ScriptCall, code: i32) -> Result<(), OutOfMemory>
     ensures { OnOk result (out.new.items ≡ out.old.items ++ code_in call.now code) }
 {
     if counts(call) && code == 0 {
         push_bytes(out, b"0")
     } else {
-        push_code(alloc, out, code)
+        push_code(out, code)
     }
 }
 
 /// Appends an answer as a call's line spells it.
-fn push_answer_in(
-    alloc: Global,
-    out: &mut Vec<u8>,
-    call: &ScriptCall,
-    answer: Answer,
-) -> Result<(), OutOfMemory>
+fn push_answer_in(out: &mut Vec<u8>, call: &ScriptCall, answer: Answer) -> Result<(), OutOfMemory>
     ensures { OnOk result (out.new.items ≡ out.old.items ++ answer_in call.now answer) }
 {
     match answer {
-        Answer::Code(code) => push_code_in(alloc, out, call, code),
-        Answer::Waits | Answer::Go | Answer::Deleted => push_answer(alloc, out, answer),
+        Answer::Code(code) => push_code_in(out, call, code),
+        Answer::Waits | Answer::Go | Answer::Deleted => push_answer(out, answer),
     }
 }
 
-fn push_number(
-    alloc: Global,
-    out: &mut Vec<u8>,
-    call: &ScriptCall,
-    number: u64,
-) -> Result<(), OutOfMemory>
+fn push_number(out: &mut Vec<u8>, call: &ScriptCall, number: u64) -> Result<(), OutOfMemory>
     ensures { OnOk result (out.new.items ≡ out.old.items ++ number_text call.now number) }
 {
     if gives_id(call) && number < 1 << 32 {
         push_id(out, number)
     } else {
-        push_decimal(alloc, out, number)
+        push_decimal(out, number)
     }
 }
 
@@ -101,7 +85,6 @@ pub(crate) fn passes(line: &Line, expect: &Expect, reply: &Reply) -> bool
 }
 
 fn push_got(
-    alloc: Global,
     out: &mut Vec<u8>,
     call: &ScriptCall,
     value: &Option<Value>,
@@ -114,7 +97,7 @@ fn push_got(
         None => Ok(()),
         Some(Value::Number(_)) => {
             push_bytes(out, b" ")?;
-            push_number(alloc, out, call, reply.number)
+            push_number(out, call, reply.number)
         }
         Some(Value::Text(_)) => {
             push_bytes(out, b" ")?;
@@ -124,7 +107,6 @@ fn push_got(
 }
 
 fn push_wanted(
-    alloc: Global,
     out: &mut Vec<u8>,
     call: &ScriptCall,
     value: &Option<Value>,
@@ -135,7 +117,7 @@ fn push_wanted(
         None => Ok(()),
         Some(Value::Number(number)) => {
             push_bytes(out, b" ")?;
-            push_number(alloc, out, call, *number)
+            push_number(out, call, *number)
         }
         Some(Value::Text(text)) => {
             push_bytes(out, b" ")?;
@@ -145,7 +127,6 @@ fn push_wanted(
 }
 
 fn push_case_head(
-    alloc: Global,
     out: &mut Vec<u8>,
     number: u64,
     line: &Line,
@@ -157,9 +138,9 @@ fn push_case_head(
         ++ (32 ∷ [] ++ (name_of_call line.now.call ++ 32 ∷ []))))))) }
 {
     push_bytes(out, if pass { b"[ PASS] " } else { b"[ FAIL] " })?;
-    push_decimal(alloc, out, number)?;
+    push_decimal(out, number)?;
     push_bytes(out, b" line ")?;
-    push_decimal(alloc, out, u64::from(line.number))?;
+    push_decimal(out, u64::from(line.number))?;
     push_bytes(out, b" ")?;
     push_bytes(out, line.call.name())?;
     push_bytes(out, b" ")?;
@@ -168,7 +149,6 @@ fn push_case_head(
 
 /// Appends what was wanted, where it was not got.
 fn push_missed(
-    alloc: Global,
     out: &mut Vec<u8>,
     line: &Line,
     expect: &Expect,
@@ -182,15 +162,14 @@ fn push_missed(
         return Ok(());
     }
     push_bytes(out, b" expected ")?;
-    push_code_in(alloc, out, &line.call, expect.code)?;
-    push_wanted(alloc, out, &line.call, &expect.value)?;
+    push_code_in(out, &line.call, expect.code)?;
+    push_wanted(out, &line.call, &expect.value)?;
     Ok(())
 }
 
 /// Appends the line of a case, and says whether it passes.
 #[tactic(auto, unfolding(crate::specs::Cases::case_text))]
 pub(crate) fn push_case(
-    alloc: Global,
     out: &mut Vec<u8>,
     number: u64,
     line: &Line,
@@ -203,10 +182,10 @@ pub(crate) fn push_case(
         (record { line = line.now; expect = expect.now; reply = reply_of reply.now })) }
 {
     let pass = passes(line, expect, reply);
-    push_case_head(alloc, out, number, line, pass)?;
-    push_answer_in(alloc, out, &line.call, reply.answer)?;
-    push_got(alloc, out, &line.call, &expect.value, reply)?;
-    push_missed(alloc, out, line, expect, pass)?;
+    push_case_head(out, number, line, pass)?;
+    push_answer_in(out, &line.call, reply.answer)?;
+    push_got(out, &line.call, &expect.value, reply)?;
+    push_missed(out, line, expect, pass)?;
     push_bytes(out, b"\n")?;
     Ok(pass)
 }

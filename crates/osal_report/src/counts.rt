@@ -2,9 +2,8 @@
 ghost use Rattle.std.specs.Prelude.{◌≡◌, ◌+◌, ◌<◌, ◌^◌, ◌++◌, OnOk, if◌then◌else◌};
 ghost use Rattle.osal_report.specs.Report.{counts_text};
 
-use crate::spelling::{push_bytes, push_decimal};
 use osal_base::OutOfMemory;
-use std::alloc::Global;
+use osal_spelling::{push_bytes, push_decimal};
 
 /// How many cases pass and fail.
 #[derive(Clone, Copy)]
@@ -51,16 +50,12 @@ impl Counts {
 
 /// Appends the counts at a line's end.
 #[tactic(auto, unfolding(crate::specs::Report::counts_text))]
-pub(crate) fn push_counts(
-    alloc: Global,
-    out: &mut Vec<u8>,
-    counts: Counts,
-) -> Result<(), OutOfMemory>
+pub(crate) fn push_counts(out: &mut Vec<u8>, counts: Counts) -> Result<(), OutOfMemory>
     ensures { OnOk result (out.new.items ≡ out.old.items ++ counts_text counts.pass counts.fail) }
 {
     push_bytes(out, b" PASS ")?;
-    push_decimal(alloc, out, counts.pass)?;
+    push_decimal(out, counts.pass)?;
     push_bytes(out, b" FAIL ")?;
-    push_decimal(alloc, out, counts.fail)?;
+    push_decimal(out, counts.fail)?;
     push_bytes(out, b"\n")
 }

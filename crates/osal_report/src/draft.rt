@@ -8,16 +8,15 @@ use crate::cases::push_case;
 use crate::counts::Counts;
 use crate::entry::{case_at, is_exit};
 use crate::segment::{how, is_stalled, push_begin, push_end, push_stall};
-use crate::spelling::push_bytes;
 use osal_base::OutOfMemory;
 use osal_call::Entry;
 use osal_script::{App, Body, Cursor};
+use osal_spelling::push_bytes;
 use std::alloc::Global;
 use std::marker::Model;
 
 /// Appends the line of the case that an entry makes, if it makes one, and counts it.
 fn push_next(
-    alloc: Global,
     lines: &mut Vec<u8>,
     counts: Counts,
     cursor: &Cursor,
@@ -35,7 +34,7 @@ fn push_next(
         return Ok(counts);
     };
     let number = counts.pass + counts.fail + 1;
-    let pass = push_case(alloc, lines, number, line, expect, &entry.reply)?;
+    let pass = push_case(lines, number, line, expect, &entry.reply)?;
     Ok(counts.with(pass))
 }
 
@@ -93,12 +92,12 @@ impl<'a> Draft<'a> {
     }
 
     /// Reads one more entry of the task.
-    pub(crate) fn note(&mut self, alloc: Global, entry: &Entry) -> Result<(), OutOfMemory>
+    pub(crate) fn note(&mut self, entry: &Entry) -> Result<(), OutOfMemory>
         requires { self.old.pass + self.old.fail ≤ length self.old.lines }
         ensures { OnOk result (self.new ≡ noted self.old entry.entry.now) }
     {
         let _ = self.lines.len();
-        self.counts = push_next(alloc, &mut self.lines, self.counts, &self.cursor, entry)?;
+        self.counts = push_next(&mut self.lines, self.counts, &self.cursor, entry)?;
         self.cursor.follow(&entry.call, &entry.reply);
         self.exits = is_exit(&entry.call);
         Ok(())
@@ -131,21 +130,14 @@ impl<'a> Draft<'a> {
     }
 
     /// Appends the segment's text.
-    pub(crate) fn push_text(&self, alloc: Global, out: &mut Vec<u8>) -> Result<(), OutOfMemory>
+    pub(crate) fn push_text(&self, out: &mut Vec<u8>) -> Result<(), OutOfMemory>
         ensures { OnOk result (out.new.items ≡ out.old.items ++ draft_text self.now) }
     {
         let phase = self.cursor.phase();
         push_begin(out, self.id, self.name)?;
         push_bytes(out, self.lines.as_slice())?;
-        push_stall(alloc, out, phase, self.cursor.line())?;
-        push_end(
-            alloc,
-            out,
-            self.id,
-            self.name,
-            how(phase, self.exits),
-            self.counts,
-        )?;
+        push_stall(out, phase, self.cursor.line())?;
+        push_end(out, self.id, self.name, how(phase, self.exits), self.counts)?;
         Ok(())
     }
 }

@@ -32,7 +32,7 @@ impl<'a> Drafts<'a> {
     }
 
     /// Reads an entry as one of its task, where the task has a draft.
-    fn join(&mut self, alloc: Global, entry: &Entry) -> Result<(), OutOfMemory>
+    fn join(&mut self, entry: &Entry) -> Result<(), OutOfMemory>
         requires counted { AllByRecursion IsCounted self.old.list.items }
         requires index { IsIndex (get nat_cmp self.old.newest) self.old.list.items }
         ensures joined { OnOk result (self.new.list.items ≡ joined_drafts self.old.list.items entry.entry.now) }
@@ -42,7 +42,7 @@ impl<'a> Drafts<'a> {
             return Ok(());
         };
         let draft = &mut self.list[place];
-        draft.note(alloc, entry)?;
+        draft.note(entry)?;
         Ok(())
     }
 
@@ -76,7 +76,7 @@ pub(crate) fn drafts_of<'a>(
         newest: BTreeMap::new(alloc),
     };
     for entry in entries {
-        drafts.join(alloc, entry)?;
+        drafts.join(entry)?;
         drafts.begin(alloc, app, entry)?;
     }
     Ok(drafts.list)

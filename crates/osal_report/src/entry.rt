@@ -18,7 +18,7 @@ fn is_waits(answer: Answer) -> bool
 }
 
 /// Whether an answer is success.
-fn is_success(answer: Answer) -> bool
+pub(crate) fn is_success(answer: Answer) -> bool
     ensures { result ≡ is_success_answer answer }
 {
     match answer {

@@ -5,10 +5,9 @@ ghost use Rattle.osal_report.specs.Report.{segment_name, begin_text, end_text, h
 ghost use Rattle.osal_report.specs.Draft.{stall_of_line};
 
 use crate::counts::{Counts, push_counts};
-use crate::spelling::{push_bytes, push_decimal, push_id};
 use osal_base::OutOfMemory;
 use osal_script::{Line, Phase};
-use std::alloc::Global;
+use osal_spelling::{push_bytes, push_decimal, push_id};
 
 /// How a task ended, whose script has come to this phase, by whether its last entry is its exit.
 pub(crate) fn how(phase: Phase, exits: bool) -> &'static [u8]
@@ -32,12 +31,12 @@ pub(crate) fn is_stalled(phase: Phase) -> bool
 }
 
 /// Appends the line of a wait that is open.
-fn push_stall_line(alloc: Global, out: &mut Vec<u8>, line: &Line) -> Result<(), OutOfMemory>
+fn push_stall_line(out: &mut Vec<u8>, line: &Line) -> Result<(), OutOfMemory>
     ensures { OnOk result (out.new.items
         ≡ out.old.items ++ stall_line line.now.number (name_of_call line.now.call)) }
 {
     push_bytes(out, b"[STALL] line ")?;
-    push_decimal(alloc, out, u64::from(line.number))?;
+    push_decimal(out, u64::from(line.number))?;
     push_bytes(out, b" ")?;
     push_bytes(out, line.call.name())?;
     push_bytes(out, b"\n")?;
@@ -46,7 +45,6 @@ fn push_stall_line(alloc: Global, out: &mut Vec<u8>, line: &Line) -> Result<(), 
 
 /// Appends the line that waits, where the phase is that of a wait.
 pub(crate) fn push_stall(
-    alloc: Global,
     out: &mut Vec<u8>,
     phase: Phase,
     line: Option<&Line>,
@@ -58,7 +56,7 @@ pub(crate) fn push_stall(
         return Ok(());
     }
     match line {
-        Some(line) => push_stall_line(alloc, out, line),
+        Some(line) => push_stall_line(out, line),
         None => Ok(()),
     }
 }
@@ -86,7 +84,6 @@ pub(crate) fn push_begin(out: &mut Vec<u8>, id: u64, name: &[u8]) -> Result<(), 
 /// Appends a segment's last line.
 #[tactic(auto, unfolding(crate::specs::Report::end_text))]
 pub(crate) fn push_end(
-    alloc: Global,
     out: &mut Vec<u8>,
     id: u64,
     name: &[u8],
@@ -99,5 +96,5 @@ pub(crate) fn push_end(
     push_bytes(out, b"[  END] ")?;
     push_segment_name(out, id, name)?;
     push_bytes(out, how)?;
-    push_counts(alloc, out, counts)
+    push_counts(out, counts)
 }

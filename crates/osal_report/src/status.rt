@@ -7,7 +7,7 @@ ghost use Rattle.osal_report.specs.Cases.{case_by, cases_from, failed};
 ghost use Rattle.osal_report.specs.Report.{is_stalled as is_stalled_phase, all_failed};
 ghost use Rattle.osal_runs.specs.Spans.{begins as begins_id, if_of, span_of};
 ghost use Rattle.osal_report.specs.Ends.{some_stalls};
-ghost use Rattle.osal_report.specs.Status.{status_of as status_by};
+ghost use Rattle.osal_report.specs.Status.{end_status, status_of as status_by};
 
 use crate::cases::passes;
 use crate::entry::{begun, case_at};
@@ -16,7 +16,7 @@ use osal_call::{Entry, Journal};
 use osal_script::{App, Body, Cursor, Phase};
 
 /// How scripts end: whether one has an open wait, and whether a case of them fails.
-#[derive(Clone, Copy)]
+#[derive(Clone, Copy, Debug)]
 pub struct End {
     pub stalled: bool,
     pub fails: bool,
@@ -39,9 +39,10 @@ impl End {
         }
     }
 
-    /// The status of a journal whose scripts end so.
-    pub(crate) fn status(self) -> u8
-        ensures { result ≡ (if self.stalled then 3 else (if self.fails then 1 else 0)) }
+    /// The status of a journal whose scripts end so: 3 where a wait is open at the end, else 1 where a case failed, else
+    /// 0.
+    pub fn status(self) -> u8
+        ensures { result ≡ end_status self }
     {
         if self.stalled {
             3

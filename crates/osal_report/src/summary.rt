@@ -3,17 +3,17 @@ ghost use Rattle.std.specs.Prelude.{◌≡◌, ◌≤◌, ◌+◌, ◌*◌, ◌+
 ghost use Rattle.std.specs.List.{AllByRecursion, flat_map, sum_by};
 ghost use Rattle.osal_runs.specs.Runs.{IsPartRun};
 ghost use Rattle.osal_report.specs.Report.{total_text, report_text};
-ghost use Rattle.osal_report.specs.Status.{status_of};
+ghost use Rattle.osal_report.specs.Status.{end_status, status_of};
 ghost use Rattle.osal_report.specs.Draft.{IsCounted, draft_text};
 
 use crate::counts::{Counts, push_counts};
 use crate::draft::Draft;
 use crate::drafts::{drafts_of, some_stalled};
-use crate::spelling::{push_bytes, push_decimal};
 use crate::status::End;
 use osal_base::{Bytes, OutOfMemory};
 use osal_call::Journal;
 use osal_script::App;
+use osal_spelling::{push_bytes, push_decimal};
 use std::alloc::Global;
 
 /// The room of the last line of a report.
@@ -31,7 +31,7 @@ fn room_of(drafts: &[Draft]) -> usize
 }
 
 /// Appends the segments' texts, and counts their cases.
-fn push_segments(alloc: Global, out: &mut Vec<u8>, drafts: &[Draft]) -> Result<Counts, OutOfMemory>
+fn push_segments(out: &mut Vec<u8>, drafts: &[Draft]) -> Result<Counts, OutOfMemory>
     requires { AllByRecursion IsCounted drafts.now }
     ensures text { OnOk result (out.new.items ≡ out.old.items ++ flat_map draft_text drafts.now) }
     ensures pass { IfOk result (λ counts. counts.pass ≡ sum_by (λ draft. draft.pass) drafts.now) }
@@ -39,7 +39,7 @@ fn push_segments(alloc: Global, out: &mut Vec<u8>, drafts: &[Draft]) -> Result<C
 {
     let mut counts = Counts::NONE;
     for draft in drafts {
-        draft.push_text(alloc, out)?;
+        draft.push_text(out)?;
         counts = counts.plus(draft.counts());
     }
     Ok(counts)
@@ -47,18 +47,13 @@ fn push_segments(alloc: Global, out: &mut Vec<u8>, drafts: &[Draft]) -> Result<C
 
 /// Appends the last line of a report.
 #[tactic(auto, unfolding(crate::specs::Report::total_text))]
-fn push_total(
-    alloc: Global,
-    out: &mut Vec<u8>,
-    tasks: u64,
-    counts: Counts,
-) -> Result<(), OutOfMemory>
+fn push_total(out: &mut Vec<u8>, tasks: u64, counts: Counts) -> Result<(), OutOfMemory>
     ensures { OnOk result (out.new.items
         ≡ out.old.items ++ total_text tasks counts.pass counts.fail) }
 {
     push_bytes(out, b"[TOTAL] TASKS ")?;
-    push_decimal(alloc, out, tasks)?;
-    push_counts(alloc, out, counts)?;
+    push_decimal(out, tasks)?;
+    push_counts(out, counts)?;
     Ok(())
 }
 
@@ -70,8 +65,8 @@ fn written(alloc: Global, drafts: &[Draft]) -> Result<(Bytes, Counts), OutOfMemo
     ensures fail { IfOk result (λ made. made.1.fail ≡ sum_by (λ draft. draft.fail) drafts.now) }
 {
     let mut out = Vec::with_capacity(alloc, room_of(drafts))?;
-    let counts = push_segments(alloc, &mut out, drafts)?;
-    push_total(alloc, &mut out, drafts.len() as u64, counts)?;
+    let counts = push_segments(&mut out, drafts)?;
+    push_total(&mut out, drafts.len() as u64, counts)?;
     Ok((Bytes::from_vec(out), counts))
 }
 
@@ -87,21 +82,20 @@ pub fn report(alloc: Global, app: &App, journal: &Journal) -> Result<Bytes, OutO
     Ok(text)
 }
 
-/// What a journal says of its application: the text of its report, and its exit status.
+/// What a journal says of its application: the text of its report, and how its scripts end.
 #[derive(Debug, Drop)]
 pub struct Summary {
     pub report: Bytes,
-    /// 3 where a wait is open at the end, else 1 where a case failed, else 0.
-    pub status: u8,
+    pub end: End,
 }
 
-/// The report and the exit status, by one reading of the journal.
+/// The report, and the end that decides the exit status, by one reading of the journal.
 ///
 /// Its time is that of `report`; `status_of` tells the status alone, and takes no memory.
 pub fn summarize(alloc: Global, app: &App, journal: &Journal) -> Result<Summary, OutOfMemory>
     requires { IsPartRun app.now journal.now.entries }
     ensures report { IfOk result (λ made. made.report.bytes ≡ report_text app.now journal.now.entries) }
-    ensures status { IfOk result (λ made. made.status ≡ status_of app.now journal.now.entries) }
+    ensures status { IfOk result (λ made. end_status made.end ≡ status_of app.now journal.now.entries) }
 {
     let drafts = drafts_of(alloc, app, journal.entries())?;
     let (report, counts) = written(alloc, drafts.as_slice())?;
@@ -111,6 +105,5 @@ pub fn summarize(alloc: Global, app: &App, journal: &Journal) -> Result<Summary,
     };
     // The law that ties open waits to scripts asks that bodies name later ones alone, which this tells.
     let _ = app.bodies();
-    let status = end.status();
-    Ok(Summary { report, status })
+    Ok(Summary { report, end })
 }

@@ -4,3 +4,4 @@ pub mod Left
 pub mod Loaded
 pub mod Nothing
 pub mod Pieces
+pub mod Workers

@@ -13,27 +13,29 @@ use Rattle.osal_run.specs.declared.load.Stop.{Stop}
 use Rattle.osal_run.specs.declared.load.Stop.TheVariants as stop
 use Rattle.osal_run.specs.declared.load.ReadFault.TheVariants as read_fault
 use Rattle.osal_run.specs.declared.refusal.Refusal.TheVariants as refusal
-use Rattle.osal_run.specs.Checks.{Refused, Accepted, IsThere, file_limit, cost_limit, file_of, check_reading, check_file, check_name, check_of}
-use Rattle.osal_run.specs.Loading.{IfTold, IsFound, ReadsFile, LoadsFile, Loads}
+use Rattle.osal_make.specs.MakeText.{make_text}
+use Rattle.osal_run.specs.Request.{Make}
+use Rattle.osal_run.specs.Checks.{Refused, Accepted, IsFoundFile, file_limit, cost_limit, check_reading, check_file}
+use Rattle.osal_run.specs.Loading.{IfTold, IsFound, ReadsFile, LoadsFile, LoadsName, Loads}
 use Rattle.osal_run.proofs.Pieces.{rest_of, rest_told}
 
 -- the check of the cost comes after the opening
-cost_there : (b : Bool) (app : Application) → IsThere (cond b (Refused refusal.Costly) (Accepted app))
+cost_there : (b : Bool) (app : Application) → IsFoundFile (cond b (Refused refusal.Costly) (Accepted app))
 cost_there true app = tt
 cost_there false app = tt
 
 -- so does the check of the text
-reading_there : (read : Result Application AppFault) → IsThere (check_reading read)
+reading_there : (read : Result Application AppFault) → IsFoundFile (check_reading read)
 reading_there (Ok app) = cost_there (nat_lt cost_limit (cost_of app)) app
 reading_there (Err fault) = tt
 
 -- and the check of the size
-size_there : (b : Bool) (read : Result Application AppFault) → IsThere (cond b (Refused refusal.Larger) (check_reading read))
+size_there : (b : Bool) (read : Result Application AppFault) → IsFoundFile (cond b (Refused refusal.Larger) (check_reading read))
 size_there true read = tt
 size_there false read = reading_there read
 
 -- a file that is there passes the first two checks
-pub file_there : (bytes : List ℕ) → IsThere (check_file (Some bytes))
+pub file_there : (bytes : List ℕ) → IsFoundFile (check_file (Some bytes))
 file_there bytes = size_there (nat_lt file_limit (length bytes)) (reading_of bytes)
 
 -- a file of more bytes than it may have is refused
@@ -58,34 +60,25 @@ by_text a bytes result r found =
     record { bytes = r.bytes; told = r.told; found = subst (IsFound result) (sym same) found }
 
 -- what a shelf tells of its files, or any files
-abbrev files_of : Option ShelfContent → Files
+abbrev pub files_of : Option ShelfContent → Files
 files_of None = λ name. Some []
 files_of (Some told) = told.files
 
 -- they are told, where any are
-files_told : (a : Option ShelfContent) → IfTold a (λ told. told.files ≡ files_of a)
+pub files_told : (a : Option ShelfContent) → IfTold a (λ told. told.files ≡ files_of a)
 files_told None = tt
 files_told (Some told) = refl
 
--- words that name no file are refused, whatever files there are
-pub refused_usage : (a : Option ShelfContent) (words : List (List ℕ)) → file_of words ≡ None → Loads a words (Err (stop.Refused refusal.Usage))
-refused_usage a words none =
-    record { files = files_of a; told = files_told a; found = ap (check_name (files_of a)) none }
-
 -- want of memory before the file was open
-pub unopened : (a : Option ShelfContent) (words : List (List ℕ)) → Loads a words (Err stop.Memory)
-unopened a words = record { files = files_of a; told = files_told a; found = tt }
-
--- the check of the words is the check of the file that they name
-named : (files : Files) (words : List (List ℕ)) (name : List ℕ) (bytes : Option (List ℕ)) → file_of words ≡ Some name → files name ≡ bytes → check_of files words ≡ check_file bytes
-named files words name bytes word has = ap (check_name files) word ∙ ap check_file has
+pub unopened : (a : Option ShelfContent) (name : List ℕ) → LoadsName a name (Err stop.Memory)
+unopened a name = record { files = files_of a; told = files_told a; found = tt }
 
 -- a name of which the shelf tells that it is not there
-pub refused_missing : (a b : Option ShelfContent) (words : List (List ℕ)) (name : List ℕ) → file_of words ≡ Some name → AnswersUntold a (Ok opened.NotFound) → WhereTold a b (OpenLeaves name (Ok opened.NotFound)) → Loads a words (Err (stop.Refused refusal.Missing))
-refused_missing None b words name word untold told = absurd (untold refl)
-refused_missing (Some x) None words name word untold told = absurd told
-refused_missing (Some x) (Some y) words name word untold told =
-    record { files = x.files; told = refl; found = named x.files words name None word told.1 }
+pub refused_missing : (a b : Option ShelfContent) (name : List ℕ) → AnswersUntold a (Ok opened.NotFound) → WhereTold a b (OpenLeaves name (Ok opened.NotFound)) → LoadsName a name (Err (stop.Refused refusal.Missing))
+refused_missing None b name untold told = absurd (untold refl)
+refused_missing (Some x) None name untold told = absurd told
+refused_missing (Some x) (Some y) name untold told =
+    record { files = x.files; told = refl; found = ap check_file told.1 }
 
 -- a fact that holds of false and not of true
 abbrev IsOff : Bool → Type 0
@@ -93,29 +86,30 @@ IsOff false = Unit {0}
 IsOff true = ⊥
 
 -- some file
-some_there : (bytes : Option (List ℕ)) → IsSome bytes → IsThere (check_file bytes)
+some_there : (bytes : Option (List ℕ)) → IsSome bytes → IsFoundFile (check_file bytes)
 some_there None some = subst IsOff some tt
 some_there (Some bytes) some = file_there bytes
 
 -- a file that is there and was not opened
-pub open_failed : (a b : Option ShelfContent) (words : List (List ℕ)) (name : List ℕ) → file_of words ≡ Some name → WhereTold a b (OpenLeaves name (Ok opened.Failed)) → Loads a words (Err stop.Source)
-open_failed None b words name word told =
-    let any : Files = λ asked. Some [] in
-    record { files = any; told = tt; found = subst IsThere (sym (named any words name (Some []) word refl)) (file_there []) }
-open_failed (Some x) None words name word told = absurd told
-open_failed (Some x) (Some y) words name word told =
-    record { files = x.files; told = refl; found = subst IsThere (sym (named x.files words name (x.files name) word refl)) (some_there (x.files name) told.1) }
+pub open_failed : (a b : Option ShelfContent) (name : List ℕ) → WhereTold a b (OpenLeaves name (Ok opened.Failed)) → LoadsName a name (Err stop.Source)
+open_failed None b name told = record { files = λ asked. Some []; told = tt; found = file_there [] }
+open_failed (Some x) None name told = absurd told
+open_failed (Some x) (Some y) name told =
+    record { files = x.files; told = refl; found = some_there (x.files name) told.1 }
 
--- what was loaded of the open file was loaded of the words that name it
-pub of_open : (a b : Option ShelfContent) (words : List (List ℕ)) (name : List ℕ) (result : Result Application Stop) → file_of words ≡ Some name → WhereTold a b (OpenLeaves name (Ok opened.Ready)) → LoadsFile b result → Loads a words result
-of_open None None words name result word told loaded =
-    let any : Files = λ asked. Some loaded.bytes in
-    record { files = any; told = tt; found = subst (IsFound result) (sym (named any words name (Some loaded.bytes) word refl)) loaded.found }
-of_open (Some x) (Some y) words name result word told loaded =
+-- what was loaded of the open file was loaded of its name
+pub of_open : (a b : Option ShelfContent) (name : List ℕ) (result : Result Application Stop) → WhereTold a b (OpenLeaves name (Ok opened.Ready)) → LoadsFile b result → LoadsName a name result
+of_open None None name result told loaded =
+    record { files = λ asked. Some loaded.bytes; told = tt; found = loaded.found }
+of_open (Some x) (Some y) name result told loaded =
     let has : x.files name ≡ Some loaded.bytes = told.1 ∙ ap Some loaded.told in
-    record { files = x.files; told = refl; found = subst (IsFound result) (sym (named x.files words name (Some loaded.bytes) word has)) loaded.found }
-of_open None (Some y) words name result word told loaded = absurd told
-of_open (Some x) None words name result word told loaded = absurd told
+    record { files = x.files; told = refl; found = subst (IsFound result) (sym (ap check_file has)) loaded.found }
+of_open None (Some y) name result told loaded = absurd told
+of_open (Some x) None name result told loaded = absurd told
+
+-- an application that is made is what a request for it asks for, whatever files there are
+pub by_making : (a : Option ShelfContent) (count : ℕ) (result : Result Application Stop) → IsFound result (check_reading (reading_of (make_text count))) → Loads a (Make count) result
+by_making a count result found = record { files = files_of a; told = files_told a; found = found }
 
 -- the count after calls that did not fail, and then others
 pub rose_since : (failed : Bool) (before between now : ℕ) → between ≡ before → RoseIf failed between now → RoseIf failed before now

@@ -23,11 +23,11 @@ no_entries app = record {
 }
 
 -- nothing is a run that was cut short, whatever the checks find
-cut_at_once : (check : Check) (written : Option (List ℕ)) → Leaves exit.NoMemory check [] written written
-cut_at_once (Accepted app) written = (no_entries app, no_bytes _ written)
-cut_at_once (Refused refusal) written = (refl, no_bytes _ written)
+cut_at_once : (words : List (List ℕ)) (check : Check) (written : Option (List ℕ)) → Leaves exit.NoMemory words check [] written written
+cut_at_once words (Accepted app) written = (no_entries app, no_bytes _ written)
+cut_at_once words (Refused refusal) written = (refl, no_bytes _ written)
 
 -- a run that found no memory before it began
-pub left_alone : (check : Check) (written : Option (List ℕ)) (entries : List Entry) → entries ≡ [] → Leaves exit.NoMemory check entries written written
-left_alone check written entries none =
-    subst (λ es. Leaves exit.NoMemory check es written written) (sym none) (cut_at_once check written)
+pub left_alone : (words : List (List ℕ)) (check : Check) (written : Option (List ℕ)) (entries : List Entry) → entries ≡ [] → Leaves exit.NoMemory words check entries written written
+left_alone words check written entries none =
+    subst (λ es. Leaves exit.NoMemory words check es written written) (sym none) (cut_at_once words check written)

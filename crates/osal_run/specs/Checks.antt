@@ -1,5 +1,5 @@
 -- What stands before a run: the checks, in their order, and the text of each refusal.
-use Rattle.std.specs.Prelude.{◌==◌, ◌++◌, List, [], ◌∷◌, ℕ, Option, Some, None, Result, Ok, Err, codes, length, nat_lt, if◌then◌else◌}
+use Rattle.std.specs.Prelude.{◌≡◌, ◌++◌, List, ℕ, true, Option, Some, None, Result, Ok, Err, codes, length, nat_lt, if◌then◌else◌}
 use Rattle.std.specs.Fmt.{decimal}
 use Rattle.osal_outside.specs.Shelf.{Files}
 use Rattle.osal_reading.specs.declared.fault.AppFault.{AppFault}
@@ -9,21 +9,12 @@ use Rattle.osal_script.specs.App.{Application}
 use Rattle.osal_script.specs.Cost.{cost_of}
 use Rattle.osal_reading.specs.Fault.{kind_text}
 use Rattle.osal_reading.specs.Reading.{reading_of}
+use Rattle.osal_make.specs.MakeText.{make_text}
+use Rattle.osal_run.specs.Request.{Request, File, Make, request_of, asks_file}
 
 -- the most bytes of an application's file
 abbrev pub file_limit : ℕ
 file_limit = 1048576
-
--- a word that names a file: it is not empty and does not begin with a dash
-abbrev pub file_name : List ℕ → Option (List ℕ)
-file_name [] = None
-file_name (byte ∷ bytes) = if byte == 45 then None else Some (byte ∷ bytes)
-
--- the file that the words name: they are one word that names a file
-abbrev pub file_of : List (List ℕ) → Option (List ℕ)
-file_of [] = None
-file_of (word ∷ []) = file_name word
-file_of (word ∷ another ∷ words) = None
 
 -- what the checks find: the first refusal, or an application
 pub data Check : Type 0 where
@@ -48,23 +39,25 @@ abbrev pub check_file : Option (List ℕ) → Check
 check_file None = Refused refusal.Missing
 check_file (Some bytes) = if nat_lt file_limit (length bytes) then Refused refusal.Larger else check_reading (reading_of bytes)
 
--- the check of the file that the words name
-abbrev pub check_name : Files → Option (List ℕ) → Check
-check_name files None = Refused refusal.Usage
-check_name files (Some name) = check_file (files name)
+-- the check of what is asked for: the application that is made is the one that its text spells
+abbrev pub check_request : Files → Option Request → Check
+check_request files None = Refused refusal.Usage
+check_request files (Some (File name journal)) = check_file (files name)
+check_request files (Some (Make count)) = check_reading (reading_of (make_text count))
 
 -- the first check that refuses, or the application
 abbrev pub check_of : Files → List (List ℕ) → Check
-check_of files words = check_name files (file_of words)
+check_of files words = check_request files (request_of words)
 
--- the words name a file that is there: neither of the first two checks refuses
-abbrev pub IsThere : Check → Type 0
-IsThere (Refused refusal.Usage) = ⊥
-IsThere (Refused refusal.Missing) = ⊥
-IsThere (Refused refusal.Larger) = Unit {0}
-IsThere (Refused (refusal.Unread fault)) = Unit {0}
-IsThere (Refused refusal.Costly) = Unit {0}
-IsThere (Accepted app) = Unit {0}
+-- a file was found: the check that it is there does not refuse
+abbrev pub IsFoundFile : Check → Type 0
+IsFoundFile (Refused refusal.Missing) = ⊥
+IsFoundFile other = Unit {0}
+
+-- the words name a file that is there
+pub record IsThere (words : List (List ℕ)) (check : Check) : Type 0 where
+  pub asked : asks_file (request_of words) ≡ true
+  pub found : IsFoundFile check
 
 -- the text of a refused file: the first bad line, and the rule that it breaks
 abbrev pub fault_text : AppFault → List ℕ

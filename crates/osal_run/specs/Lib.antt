@@ -4,6 +4,11 @@ pub use Rattle.osal_outside.specs.Sink
 pub use Rattle.osal_reading.specs.Reading
 pub use Rattle.osal_runs.specs.Runs
 pub use Rattle.osal_report.specs.Report
+pub use Rattle.osal_laws.specs.ConsoleText
+pub use Rattle.osal_journal.specs.JournalText
+pub use Rattle.osal_make.specs.MakeText
+pub mod Request
+pub mod Asked
 pub mod Checks
 pub mod Loading
 pub mod Outcome

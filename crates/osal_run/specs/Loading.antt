@@ -8,7 +8,8 @@ use Rattle.osal_run.specs.declared.load.ReadFault.{ReadFault}
 use Rattle.osal_run.specs.declared.load.ReadFault.TheVariants as read_fault
 use Rattle.osal_run.specs.declared.load.Stop.{Stop}
 use Rattle.osal_run.specs.declared.load.Stop.TheVariants as stop
-use Rattle.osal_run.specs.Checks.{Check, Refused, Accepted, IsThere, file_limit, check_file, check_of}
+use Rattle.osal_run.specs.Checks.{Check, Refused, Accepted, IsFoundFile, file_limit, check_file, check_request}
+use Rattle.osal_run.specs.Request.{Request}
 
 -- what holds of what is told, if anything is
 abbrev pub IfTold : {A : Type 0} → Option A → (A → Type 0) → Type 0
@@ -61,7 +62,7 @@ loading_fails (Err stop.Memory) = false
 abbrev pub IsFound : Result Application Stop → Check → Type 0
 IsFound (Ok app) check = check ≡ Accepted app
 IsFound (Err (stop.Refused refusal)) check = check ≡ Refused refusal
-IsFound (Err stop.Source) check = IsThere check
+IsFound (Err stop.Source) check = IsFoundFile check
 IsFound (Err stop.Memory) check = Unit {0}
 
 -- the open file was loaded: it has some bytes, those that the shelf tells where it tells any
@@ -70,8 +71,14 @@ pub record LoadsFile (content : Option ShelfContent) (result : Result Applicatio
   pub told : IfTold content (λ told. told.rest ≡ bytes)
   pub found : IsFound result (check_file (Some bytes))
 
--- the words were loaded: there are some files, those that the shelf tells where it tells any
-pub record Loads (content : Option ShelfContent) (words : List (List ℕ)) (result : Result Application Stop) : Type 0 where
+-- the file of a name was loaded: there are some files, those that the shelf tells where it tells any
+pub record LoadsName (content : Option ShelfContent) (name : List ℕ) (result : Result Application Stop) : Type 0 where
   pub files : Files
   pub told : IfTold content (λ told. told.files ≡ files)
-  pub found : IsFound result (check_of files words)
+  pub found : IsFound result (check_file (files name))
+
+-- what is asked for was loaded: there are some files, those that the shelf tells where it tells any
+pub record Loads (content : Option ShelfContent) (request : Request) (result : Result Application Stop) : Type 0 where
+  pub files : Files
+  pub told : IfTold content (λ told. told.files ≡ files)
+  pub found : IsFound result (check_request files (Some request))

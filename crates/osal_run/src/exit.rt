@@ -1,6 +1,9 @@
 //! Exit statuses.
 ghost use Rattle.std.specs.Prelude.{◌≡◌};
-ghost use Rattle.osal_run.specs.Outcome.{exit_number};
+ghost use Rattle.osal_report.specs.Status.{end_status};
+ghost use Rattle.osal_run.specs.Outcome.{exit_number, IsFinished};
+
+use osal_report::End;
 
 /// How a run ended, as its exit status says.
 #[derive(Clone, Copy, Debug, PartialEq, Eq)]
@@ -22,6 +25,20 @@ pub enum Exit {
 }
 
 impl Exit {
+    /// How a run ended whose tasks came to this end.
+    pub(crate) fn finished(end: End) -> Exit
+        ensures value { exit_number result ≡ end_status end }
+        ensures done { IsFinished result }
+    {
+        if end.stalled {
+            Exit::Stalled
+        } else if end.fails {
+            Exit::Failed
+        } else {
+            Exit::Passed
+        }
+    }
+
     /// The number of the status.
     pub fn number(self) -> u8
         ensures { result ≡ exit_number self }

@@ -4,6 +4,7 @@
 mod exit;
 mod load;
 mod refusal;
+mod request;
 mod runner;
 
 pub use exit::Exit;

@@ -1,13 +1,19 @@
-//! From the words to an application: the checks before a run, in their order.
-ghost use Rattle.std.specs.Prelude.{◌≡◌, ◌<◌, ◌≤◌, ◌+◌, map, length, false, IfOk, Err, None, string_bytes, option_copied};
+//! From what is asked for to an application: the checks before a run, in their order.
+ghost use Rattle.std.specs.Prelude.{◌≡◌, ◌<◌, ◌≤◌, ◌+◌, length, true, false, IfOk, Err, Some};
 ghost use Rattle.osal_outside.specs.Causes.{RoseIf, WhereTold};
 ghost use Rattle.osal_script.specs.Cost.{cost_of};
-ghost use Rattle.osal_run.specs.Checks.{file_name as name_in, file_of, cost_limit, check_cost};
-ghost use Rattle.osal_run.specs.Loading.{IsFound, ReadsPiece, ReadsFile, Loads, LoadsFile, loading_fails, read_fails, seen_bytes};
+ghost use Rattle.osal_reading.specs.Reading.{reading_of};
+ghost use Rattle.osal_make.specs.MakeText.{make_text};
+ghost use Rattle.osal_run.specs.Request.{HasWorkers, asks_file};
+ghost use Rattle.osal_run.specs.Asked.{asked};
+ghost use Rattle.osal_run.specs.Checks.{cost_limit, check_cost, check_reading};
+ghost use Rattle.osal_run.specs.Loading.{IsFound, ReadsPiece, ReadsFile, Loads, LoadsFile, LoadsName, loading_fails, read_fails, seen_bytes};
 ghost use Rattle.osal_run.specs.declared.load.ReadFault.TheVariants as read_fault;
 
 use crate::Refusal;
+use crate::request::Request;
 use osal_base::OutOfMemory;
+use osal_make::make_app;
 use osal_outside::{Opened, ReadFailed, Shelf};
 use osal_reading::{ParseFault, parse};
 use osal_script::App;
@@ -42,25 +48,6 @@ pub enum Stop {
     Source,
     /// There was no memory to go on.
     Memory,
-}
-
-/// The file that the words name: they are one word, which is not empty and does not begin with `-`.
-fn file_word(words: &[String]) -> Option<&str>
-    ensures { option_copied result ≡ file_of (map string_bytes words.now) }
-{
-    match words {
-        [word] => file_name(word.as_str()),
-        _ => None,
-    }
-}
-
-fn file_name(word: &str) -> Option<&str>
-    ensures { option_copied result ≡ name_in word.now }
-{
-    match word.as_bytes() {
-        [] | [b'-', ..] => None,
-        _ => Some(word),
-    }
 }
 
 /// Reads one more piece of the open file behind what was read; 0 means its end.
@@ -125,16 +112,46 @@ fn read_file<S: Shelf>(alloc: Global, shelf: &mut S) -> Result<Vec<u8>, ReadFaul
     Err(ReadFault::Larger)
 }
 
-/// Loads the application that the words name: the words, the opening, the reading, the size, the text, the cost.
-pub(crate) fn load<S: Shelf>(alloc: Global, words: &[String], shelf: &mut S) -> Result<App, Stop>
-    ensures told { Loads (S.content shelf.old) (map string_bytes words.now) result }
+/// Loads the application that is asked for: the opening, the reading, the size, the text, the cost. One that is made
+/// leaves the shelf alone.
+pub(crate) fn load<S: Shelf>(
+    alloc: Global,
+    request: Request<'_>,
+    shelf: &mut S,
+) -> Result<App, Stop>
+    requires { HasWorkers (asked request) }
+    ensures told { Loads (S.content shelf.old) (asked request.entry) result }
     ensures cost { IfOk result (λ app. cost_of app ≤ cost_limit) }
     ensures cause { RoseIf (loading_fails result) (S.faults shelf.old) (S.faults shelf.new) }
-    ensures untouched { file_of (map string_bytes words.now) ≡ None → shelf.new ≡ shelf.old }
+    ensures untouched { asks_file (Some (asked request.entry)) ≡ false → shelf.new ≡ shelf.old }
+    ensures asked { loading_fails result ≡ true → asks_file (Some (asked request.entry)) ≡ true }
 {
-    let Some(name) = file_word(words) else {
-        return Err(Stop::Refused(Refusal::Usage));
-    };
+    match request {
+        Request::File { name, .. } => load_file(alloc, name, shelf),
+        Request::Make { workers } => make(alloc, workers),
+    }
+}
+
+/// Makes the application for so many workers.
+fn make(alloc: Global, workers: u32) -> Result<App, Stop>
+    requires some { 1 ≤ workers }
+    requires few { workers ≤ 60 }
+    ensures found { IsFound result (check_reading (reading_of (make_text workers))) }
+    ensures cost { IfOk result (λ app. cost_of app ≤ cost_limit) }
+    ensures calm { loading_fails result ≡ false }
+{
+    match make_app(alloc, workers) {
+        Ok(app) => Ok(app),
+        Err(OutOfMemory) => Err(Stop::Memory),
+    }
+}
+
+/// Loads the application in the file of that name.
+fn load_file<S: Shelf>(alloc: Global, name: &str, shelf: &mut S) -> Result<App, Stop>
+    ensures told { LoadsName (S.content shelf.old) name.now result }
+    ensures cost { IfOk result (λ app. cost_of app ≤ cost_limit) }
+    ensures cause { RoseIf (loading_fails result) (S.faults shelf.old) (S.faults shelf.new) }
+{
     match shelf.open(alloc, name) {
         Ok(Opened::Ready) => load_open(alloc, shelf),
         Ok(Opened::NotFound) => Err(Stop::Refused(Refusal::Missing)),

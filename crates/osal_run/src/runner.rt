@@ -1,16 +1,21 @@
 //! The top call.
-ghost use Rattle.std.specs.Prelude.{◌≡◌, ◌==◌, ◌≤◌, [], false, None, map, OnOk, string_bytes};
+ghost use Rattle.std.specs.Prelude.{◌≡◌, ◌==◌, ◌≤◌, [], ℕ, List, false, map, OnOk, option_copied, string_bytes};
 ghost use Rattle.osal_outside.specs.Causes.{HasCause, Rose, RoseIf, WhereTold};
 ghost use Rattle.osal_outside.specs.Sink.{Appends, AppendsPrefix};
 ghost use Rattle.osal_script.specs.Cost.{cost_of};
-ghost use Rattle.osal_run.specs.Checks.{Accepted, Refused, check_of, cost_limit, file_of};
-ghost use Rattle.osal_run.specs.Outcome.{exit_number, Leaves, LeavesFor, LeavesBy, IsFinished, IsStatus, TellsFaults, Completes};
+ghost use Rattle.osal_journal.specs.Writing.{is_write_failed};
+ghost use Rattle.osal_run.specs.Request.{request_of as asked_for, asks_file, asks_journal};
+ghost use Rattle.osal_run.specs.Checks.{Accepted, Refused, check_of, cost_limit};
+ghost use Rattle.osal_run.specs.Outcome.{exit_number, text_if, rest_text, Leaves, LeavesFor, LeavesBy, TellsFaults, Completes};
 ghost use Rattle.osal_run.specs.Loading.{IfTold};
 
 use crate::load::{Stop, load};
+use crate::request::request_of;
 use crate::{Exit, Refusal};
+use osal_base::Bytes;
 use osal_call::Journal;
 use osal_exec::{Gate, Outcome, drive};
+use osal_journal::{WriteFault, write_journal};
 use osal_outside::{Shelf, Sink, WriteFailed, send_all};
 use osal_report::summarize;
 use osal_script::App;
@@ -29,7 +34,7 @@ fn write_text<K: Sink>(sink: &mut K, text: &[u8]) -> Result<(), WriteFailed>
 
 /// Tells why a run is refused.
 fn refuse<K: Sink>(alloc: Global, refusal: Refusal, sink: &mut K) -> Exit
-    ensures left { Leaves result (Refused refusal) [] (K.written sink.old) (K.written sink.new) }
+    ensures left { (words : List (List ℕ)) → Leaves result words (Refused refusal) [] (K.written sink.old) (K.written sink.new) }
     ensures handed { exit_number result ≤ 3 → K.flushed sink.new ≡ K.written sink.new }
     ensures sink { RoseIf (exit_number result == 5) (K.faults sink.old) (K.faults sink.new) }
     ensures source { (exit_number result == 4) ≡ false }
@@ -43,52 +48,83 @@ fn refuse<K: Sink>(alloc: Global, refusal: Refusal, sink: &mut K) -> Exit
     }
 }
 
-/// Runs an application and writes its report.
+/// Writes the text of a journal, where it is asked for.
+fn write_shown<K: Sink>(
+    alloc: Global,
+    journal: Option<&Journal>,
+    sink: &mut K,
+) -> Result<(), WriteFault>
+    ensures all { OnOk result (WhereTold (K.written sink.old) (K.written sink.new)
+        (Appends (text_if (option_copied journal.entry)))) }
+    ensures prefix { WhereTold (K.written sink.old) (K.written sink.new)
+        (AppendsPrefix (text_if (option_copied journal.entry))) }
+    ensures cause { RoseIf (is_write_failed result) (K.faults sink.old) (K.faults sink.new) }
+{
+    match journal {
+        Some(journal) => write_journal(alloc, journal, sink),
+        None => Ok(()),
+    }
+}
+
+/// Writes what stands behind the console text: the report, and the journal's text where it is asked for.
+fn write_rest<K: Sink>(
+    alloc: Global,
+    report: &Bytes,
+    journal: Option<&Journal>,
+    sink: &mut K,
+) -> Result<(), WriteFault>
+    ensures all { OnOk result (WhereTold (K.written sink.old) (K.written sink.new)
+        (Appends (rest_text report.now.bytes (option_copied journal.entry)))) }
+    ensures prefix { WhereTold (K.written sink.old) (K.written sink.new)
+        (AppendsPrefix (rest_text report.now.bytes (option_copied journal.entry))) }
+    ensures handed { OnOk result (K.flushed sink.new ≡ K.written sink.new) }
+    ensures cause { RoseIf (is_write_failed result) (K.faults sink.old) (K.faults sink.new) }
+{
+    send_all(sink, report.as_slice())?;
+    write_shown(alloc, journal, sink)?;
+    sink.flush()?;
+    Ok(())
+}
+
+/// Runs an application, and writes its console text, its report, and its journal where that is asked for.
 fn execute<K: Sink, G: Gate>(
     alloc: Global,
     app: &App,
+    shows_journal: bool,
     sink: &mut K,
     gate: &G,
     journal: &mut Journal,
 ) -> Exit
     requires cost { cost_of app.now ≤ cost_limit }
     requires empty { journal.old.entries ≡ [] }
-    ensures left { Leaves result (Accepted app.now) journal.new.entries (K.written sink.old) (K.written sink.new) }
+    ensures left { (words : List (List ℕ)) → asks_journal (asked_for words) ≡ shows_journal
+        → Leaves result words (Accepted app.now) journal.new.entries (K.written sink.old) (K.written sink.new) }
     ensures handed { exit_number result ≤ 3 → K.flushed sink.new ≡ K.written sink.new }
     ensures sink { RoseIf (exit_number result == 5) (K.faults sink.old) (K.faults sink.new) }
     ensures source { (exit_number result == 4) ≡ false }
 {
-    match drive(alloc, app, gate, journal) {
+    match drive(alloc, app, sink, gate, journal) {
         Outcome::Settled => {}
+        Outcome::SinkFault => return Exit::SinkFault,
         Outcome::OutOfMemory => return Exit::NoMemory,
     }
     let Ok(summary) = summarize(alloc, app, journal) else {
         return Exit::NoMemory;
     };
-    match write_text(sink, summary.report.as_slice()) {
-        Ok(()) => finished(summary.status),
-        Err(WriteFailed) => Exit::SinkFault,
+    let shown = shows_journal.then_some(&*journal);
+    match write_rest(alloc, &summary.report, shown, sink) {
+        Ok(()) => Exit::finished(summary.end),
+        Err(WriteFault::WriteFailed) => Exit::SinkFault,
+        Err(WriteFault::OutOfMemory) => Exit::NoMemory,
     }
 }
 
-/// How a run with this status of its journal ended.
-fn finished(status: u8) -> Exit
-    requires { IsStatus status }
-    ensures value { exit_number result ≡ status }
-    ensures done { IsFinished result }
-{
-    match status {
-        0 => Exit::Passed,
-        1 => Exit::Failed,
-        _ => Exit::Stalled,
-    }
-}
-
-/// Runs the application that the words name, and answers the exit status.
+/// Runs the application that the words ask for, and answers the exit status.
 ///
-/// The words are one word FILE. The checks come in this order: the words, the opening, the reading,
-/// the size, the text, the cost. The journal is emptied first; at a refusal and a fault of the source it stays
-/// empty. All texts go to the sink, and are handed on.
+/// The words are one word FILE; `--journal` and FILE, in either order; or `--make N` or `--make=N` with N from 1 to 60.
+/// The checks come in this order: the words, the opening, the reading, the size, the text, the cost. The journal is
+/// emptied first; at a refusal and a fault of the source it stays empty. All texts go to the sink, and are handed on:
+/// what the tasks write to the console while they run, the report, and with `--journal` the journal's text.
 pub fn run<S: Shelf, K: Sink, G: Gate>(
     alloc: Global,
     words: &[String],
@@ -109,8 +145,8 @@ pub fn run<S: Shelf, K: Sink, G: Gate>(
         (S.faults shelf.old) (S.faults shelf.new) (K.faults sink.old) (K.faults sink.new) }
     // A text that was written whole is handed on.
     ensures handed { result ≤ 3 → K.flushed sink.new ≡ K.written sink.new }
-    // Words that name no file are refused before the shelf is asked.
-    ensures untouched { file_of (map string_bytes words.now) ≡ None → shelf.new ≡ shelf.old }
+    // Where the words name no file, the shelf is not asked.
+    ensures untouched { asks_file (asked_for (map string_bytes words.now)) ≡ false → shelf.new ≡ shelf.old }
 {
     run_exit(alloc, words, shelf, sink, gate, journal).number()
 }
@@ -128,11 +164,14 @@ fn run_exit<S: Shelf, K: Sink, G: Gate>(
     ensures faults { TellsFaults (exit_number result)
         (S.faults shelf.old) (S.faults shelf.new) (K.faults sink.old) (K.faults sink.new) }
     ensures handed { exit_number result ≤ 3 → K.flushed sink.new ≡ K.written sink.new }
-    ensures untouched { file_of (map string_bytes words.now) ≡ None → shelf.new ≡ shelf.old }
+    ensures untouched { asks_file (asked_for (map string_bytes words.now)) ≡ false → shelf.new ≡ shelf.old }
 {
     journal.clear();
-    match load(alloc, words, shelf) {
-        Ok(app) => execute(alloc, &app, sink, gate, journal),
+    let Some(request) = request_of(words) else {
+        return refuse(alloc, Refusal::Usage, sink);
+    };
+    match load(alloc, request, shelf) {
+        Ok(app) => execute(alloc, &app, request.shows_journal(), sink, gate, journal),
         Err(Stop::Refused(refusal)) => refuse(alloc, refusal, sink),
         Err(Stop::Source) => Exit::SourceFault,
         Err(Stop::Memory) => Exit::NoMemory,

@@ -11,7 +11,7 @@ use Rattle.osal_script.specs.App.{Application, ScriptBody}
 use Rattle.osal_script.specs.Script.{is_success}
 use Rattle.osal_runs.specs.Segments.{Segment, is_of, has_segment, joined, segment_with, begun_by, begun, recorded, segments_from, segments_of}
 use Rattle.osal_runs.proofs.Segments.{has_joined, joined_none}
-use Rattle.osal_runs.specs.Spans.{begins, if_of, span_of, with_span, spans_of, SegmentsAreSpans}
+use Rattle.osal_runs.specs.Spans.{begins, if_of, span_of, with_span, SegmentsAreSpans}
 
 -- a segment with more entries
 abbrev pub with_more : Segment → List Entry → Segment

@@ -1,5 +1,5 @@
 -- A journal that follows its application does so with one more entry.
-use Rattle.std.proofs.Common.{◌≡◌, ◌<◌, ◌++◌, ℕ, true, false, List, [], ◌∷◌, length, nat_lt, slice_get, Option, Some, None, inl, inr, refl, sym, ap, subst, ◌∙◌, arith}
+use Rattle.std.proofs.Common.{◌≡◌, ◌<◌, ◌++◌, ℕ, Bool, true, false, List, [], ◌∷◌, length, nat_lt, slice_get, Option, Some, None, inl, inr, refl, sym, ap, subst, ◌∙◌, arith}
 use Rattle.std.specs.List.{AllByRecursion}
 use Rattle.std.proofs.lemmas.Bool.{cond_both, false≢true}
 use Rattle.osal_base.specs.declared.reply.Answer.{Answer}
@@ -13,6 +13,7 @@ use Rattle.osal_machine.specs.History.{after_entry, replay_from, replay}
 use Rattle.osal_call.specs.declared.call.Call.{Call}
 use Rattle.osal_call.specs.declared.call.Call.TheVariants as call
 use Rattle.osal_call.specs.declared.call.Entry.{Entry}
+use Rattle.osal_laws.specs.ConsoleText.{is_drain}
 use Rattle.osal_laws.proofs.Histories.{legal_push}
 use Rattle.osal_laws.proofs.Own.{after_time}
 use Rattle.osal_script.specs.declared.phase.Phase.{Phase}
@@ -80,22 +81,39 @@ module _ (state : MachineState) (task : ℕ) (now : Moment) where
   time_after (call.Advance to) succeeds = later_time to (succeeds refl)
   time_after other succeeds = still_moment other refl
 
+-- what is true of no line's call, of no checkpoint and of no end of a wait is true of no call of a script
+module _ (test : Call → Bool) (same : (made : Call) → test (said made) ≡ test made) (line : (made : Call) → is_of_line made ≡ true → test made ≡ false) (checkpoint : test call.Checkpoint ≡ false) (ends : (part : ℕ) → test (call.WaitEnd part) ≡ false) (abandons : (part : ℕ) → test (call.WaitAbandon part) ≡ false) where
+  never_next : (at : Phase) (from : ScriptState) (made : Call) (reply : Answer) → MayCome at from (said made) reply → test made ≡ false
+  never_next phase.Before from made reply may = sym (same made) ∙ ap test may.0 ∙ checkpoint
+  never_next phase.At from made reply may = line made (made_by_line made from.pending from.frames may)
+  never_next (phase.Waiting part) from made reply (inl may) = sym (same made) ∙ ap test may.0 ∙ ends part
+  never_next (phase.Waiting part) from made reply (inr may) = sym (same made) ∙ ap test may.0 ∙ checkpoint
+  never_next (phase.Leaving part) from made reply may = sym (same made) ∙ ap test may ∙ abandons part
+  never_next phase.Ended from made reply may = absurd may
+
 advance_said : (made : Call) → is_advance (said made) ≡ is_advance made
 advance_said (call.Advance to) = refl
 advance_said _ = refl
 
-line_is : (made : Call) → is_of_line made ≡ true → is_advance made ≡ false
-line_is (call.Advance to) line = absurd (false≢true line)
-line_is _ line = refl
+line_still : (made : Call) → is_of_line made ≡ true → is_advance made ≡ false
+line_still (call.Advance to) line = absurd (false≢true line)
+line_still _ line = refl
 
 -- no script makes time go on
 pub next_still : (at : Phase) (from : ScriptState) (made : Call) (reply : Answer) → MayCome at from (said made) reply → is_advance made ≡ false
-next_still phase.Before from made reply may = sym (advance_said made) ∙ ap is_advance may.0
-next_still phase.At from made reply may = line_is made (made_by_line made from.pending from.frames may)
-next_still (phase.Waiting part) from made reply (inl may) = sym (advance_said made) ∙ ap is_advance may.0
-next_still (phase.Waiting part) from made reply (inr may) = sym (advance_said made) ∙ ap is_advance may.0
-next_still (phase.Leaving part) from made reply may = sym (advance_said made) ∙ ap is_advance may
-next_still phase.Ended from made reply may = absurd may
+next_still = never_next is_advance advance_said line_still refl (λ part. refl) (λ part. refl)
+
+drain_said : (made : Call) → is_drain (said made) ≡ is_drain made
+drain_said (call.Drain n) = refl
+drain_said _ = refl
+
+line_undrained : (made : Call) → is_of_line made ≡ true → is_drain made ≡ false
+line_undrained (call.Drain n) line = absurd (false≢true line)
+line_undrained _ line = refl
+
+-- no script drains the console
+pub next_undrained : (at : Phase) (from : ScriptState) (made : Call) (reply : Answer) → MayCome at from (said made) reply → is_drain made ≡ false
+next_undrained = never_next is_drain drain_said line_undrained refl (λ part. refl) (λ part. refl)
 
 -- a segment that begins has made no call
 pub begun_follows : (app : Application) (entry : Entry) → AllByRecursion FollowsScript (begun app entry)

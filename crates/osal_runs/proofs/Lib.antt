@@ -3,10 +3,12 @@ pub mod Joining
 pub mod Chain
 pub mod TaskCalls
 pub mod Creating
+pub mod Drains
 pub mod LineCalls
 pub mod MadeByLines
 pub mod ScriptCalls
 pub mod Linking
+pub mod MachineCalls
 pub mod LinkedSteps
 pub mod Pending
 pub mod Names

@@ -212,6 +212,7 @@ abbrev pub IsOfLine : Call → Type 0
 IsOfLine (call.TaskCreate name body stack priority) = ⊥
 IsOfLine call.Checkpoint = ⊥
 IsOfLine (call.Advance to) = ⊥
+IsOfLine (call.Drain n) = ⊥
 IsOfLine (call.WaitEnd part) = ⊥
 IsOfLine (call.WaitAbandon part) = ⊥
 IsOfLine other = Unit {0}

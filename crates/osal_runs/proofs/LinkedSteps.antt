@@ -5,6 +5,7 @@ use Rattle.std.specs.FinMap as map
 use Rattle.std.specs.Ordering.{nat_cmp}
 use Rattle.std.proofs.lemmas.Bool.{cases_Bool, false≢true}
 use Rattle.std.proofs.lemmas.List.{append-nil}
+use Rattle.osal_base.specs.declared.reply.Answer.{Answer}
 use Rattle.osal_base.specs.declared.time.Moment.{Moment}
 use Rattle.osal_base.specs.Limits.{Fits, version1}
 use Rattle.osal_base.specs.Text.{Text}
@@ -12,6 +13,7 @@ use Rattle.osal_base.specs.Reply.{Replied, gives, reply_of}
 use Rattle.osal_task.specs.declared.part.Task.{Task}
 use Rattle.osal_task.specs.Tasks.{task_at}
 use Rattle.osal_idtable.specs.Table.{Active}
+use Rattle.osal_console.specs.Console.{drain_limit}
 use Rattle.osal_call.specs.Call.{said}
 use Rattle.osal_machine.specs.Step.{MachineState, opening, step}
 use Rattle.osal_machine.specs.OpenWaits.{has_wait, WaitsOnce}
@@ -25,11 +27,12 @@ use Rattle.osal_script.specs.App.{Application, ScriptBody}
 use Rattle.osal_script.specs.Script as script
 use Rattle.osal_script.specs.Script.{ScriptState, MayCome, IsNext, after, is_success}
 use Rattle.osal_runs.specs.Segments.{Segment, has_segment, joined, recorded}
-use Rattle.osal_runs.specs.Runs.{CreatesFirst, is_advance, EndsBefore}
+use Rattle.osal_runs.specs.Runs.{CreatesFirst, is_machine_call, EndsBefore}
 use Rattle.osal_runs.specs.Linked.{newest_script, is_leaving, IsLinked, is_creation, GivesFree}
 use Rattle.osal_runs.proofs.Segments.{newest_none, newest_other, joined_none}
-use Rattle.osal_runs.proofs.LineCalls.{Moves, kept_by, plain_call, IsCreateCall, create_calls}
+use Rattle.osal_runs.proofs.LineCalls.{IsPlain, Moves, plain_call, IsCreateCall, create_calls}
 use Rattle.osal_runs.proofs.Joining.{ends_joined}
+use Rattle.osal_runs.proofs.MachineCalls.{IsOwnCall, Advances, Drains, own_call, own_plain}
 use Rattle.osal_runs.proofs.Linking.{linked_over, keeps, moves_in, linked_moves, linked_joined, begins_none, begun_as, creation_links, creation_answered, creation_moves, Grows}
 
 -- a script whose call came next has a segment
@@ -98,32 +101,31 @@ module _ (app : Application) (state : MachineState) (segments : List Segment) (e
   pub ends_step : GivesFree segments entry → EndsBefore segments → EndsBefore (recorded app segments entry)
   ends_step free ends = (both free).ends ends
 
--- a call that makes time go on, with its moment
-pub advance_of : (made : Call) → is_advance made ≡ true → (to : ℕ) × (made ≡ call.Advance to)
-advance_of (call.Advance to) is = (to, refl)
-advance_of _ is = absurd (false≢true is)
-
 -- an entry without a segment that creates no task leaves the segments
 pub recorded_still : (app : Application) (segments : List Segment) (entry : Entry) → has_segment segments entry.task ≡ false → is_creation entry.call ≡ false → recorded app segments entry ≡ segments
 recorded_still app segments entry none plain =
     (λ i. joined_none segments entry none i ++ begins_none app entry plain i) ∙ append-nil segments
 
 module _ (app : Application) (state : MachineState) (segments : List Segment) (linked : IsLinked app state segments) where
-  -- time that goes on leaves all tasks and waits
-  advanced : (task : ℕ) (now : Moment) (to : ℕ) → IsLinked app (step state task now (call.Advance to)).1 segments
-  advanced task now to =
-      let plain = plain_call state task now (call.Advance to) refl refl (λ id. refl) in
-      keeps app state (step state task now (call.Advance to)).1 segments linked segments
-      (kept_by state task now (call.Advance to))
-      (λ other. linked_over state (step state task now (call.Advance to)).1 other _ (plain.agrees other) (linked.each other))
+  -- a call that neither waits nor ends a wait, and leaves the same tasks active, leaves all tasks and waits
+  quiet : (task : ℕ) (now : Moment) (made : Call) → IsPlain state (step state task now made) → IsLinked app (step state task now made).1 segments
+  quiet task now made plain =
+      keeps app state (step state task now made).1 segments linked segments plain.kept
+      (λ other. linked_over state (step state task now made).1 other _ (plain.agrees other) (linked.each other))
       linked.nobody linked.bodies
 
-  -- time goes on
-  pub linked_advance : (entry : Entry) → entry.task ≡ 0 → is_advance entry.call ≡ true → IsLinked app (after_entry state entry) (recorded app segments entry)
-  linked_advance entry nobody advances =
-      let is = advance_of entry.call advances in
-      let none = recorded_still app segments entry (ap (has_segment segments) nobody ∙ linked.nobody) (ap is_creation is.1) in
-      subst₂ (λ (c : Call) (after : List Segment). IsLinked app (step state entry.task entry.now c).1 after) (sym is.1) (sym none) (advanced entry.task entry.now is.0)
+  -- so does a call of the machine itself
+  own_links : (task : ℕ) (now : Moment) (made : Call) (reply : Answer) → IsOwnCall made reply → IsLinked app (step state task now made).1 segments
+  own_links task now made reply (Advances to is success) =
+      subst (λ c. IsLinked app (step state task now c).1 segments) (sym is) (quiet task now (call.Advance to) (plain_call state task now (call.Advance to) refl refl (λ id. refl)))
+  own_links task now made reply (Drains is some) =
+      subst (λ c. IsLinked app (step state task now c).1 segments) (sym is) (quiet task now (call.Drain drain_limit) (plain_call state task now (call.Drain drain_limit) refl refl (λ id. refl)))
+
+  -- time goes on, or the console gives some bytes
+  pub linked_machine : (entry : Entry) → entry.task ≡ 0 → is_machine_call entry.call entry.reply.answer ≡ true → IsLinked app (after_entry state entry) (recorded app segments entry)
+  linked_machine entry nobody is =
+      let none = recorded_still app segments entry (ap (has_segment segments) nobody ∙ linked.nobody) (own_plain entry.call entry.reply.answer is) in
+      subst (IsLinked app (after_entry state entry)) (sym none) (own_links entry.task entry.now entry.call entry.reply.answer (own_call entry.call entry.reply.answer is))
 
 -- there is no task at the opening
 no_task : (id : ℕ) (active : Active Task) → task_at (opening version1).tasks id ≡ Some active → ⊥
@@ -149,11 +151,11 @@ version1_fits = record {
 pub linked_opening : (app : Application) → IsLinked app (opening version1) []
 linked_opening app = record {
   each = λ task. record {
-    waits = by_number (λ n p. has_wait p task ≡ false) (opening version1) refl refl refl refl refl refl refl refl (λ n. refl);
+    waits = by_number (λ n p. has_wait p task ≡ false) (opening version1) refl refl refl refl refl refl refl refl refl (λ n. refl);
     live = λ e. absurd (false≢true e);
     gone = λ e. absurd (false≢true e);
   };
-  once = λ part task. by_number (λ n p. WaitsOnce p task) (opening version1) tt tt tt tt tt tt tt tt (λ n. tt) part;
+  once = λ part task. by_number (λ n p. WaitsOnce p task) (opening version1) tt tt tt tt tt tt tt tt tt (λ n. tt) part;
   unheld = λ id active is marked. absurd (no_task id active is);
   typed = refl;
   timers = attached_replayed version1 [] version1_fits;

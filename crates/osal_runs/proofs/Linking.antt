@@ -38,6 +38,7 @@ pub of_line : (made : Call) → is_of_line made ≡ true → is_creation made �
 of_line (call.TaskCreate name body stack priority) line plain = absurd (false≢true (sym plain))
 of_line call.Checkpoint line plain = absurd (false≢true line)
 of_line (call.Advance to) line plain = absurd (false≢true line)
+of_line (call.Drain n) line plain = absurd (false≢true line)
 of_line (call.WaitEnd part) line plain = absurd (false≢true line)
 of_line (call.WaitAbandon part) line plain = absurd (false≢true line)
 of_line _ line plain = tt

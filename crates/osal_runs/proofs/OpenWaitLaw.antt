@@ -23,7 +23,7 @@ use Rattle.osal_runs.specs.Runs.{IsOfMachine, IsOfTask, IsCalled, IsCalledBy, Ar
 use Rattle.osal_runs.specs.Linked.{newest_script, is_leaving, IsLinked, GivesFree, OpenWaitsAreScripts}
 use Rattle.osal_runs.proofs.Segments.{newest_other}
 use Rattle.osal_runs.proofs.Joining.{all_more, all_front, next_joined, scripts_before, ends_before, ends_last}
-use Rattle.osal_runs.proofs.LinkedSteps.{creation_of, linked_step, linked_advance, linked_opening, linked_first}
+use Rattle.osal_runs.proofs.LinkedSteps.{creation_of, linked_step, linked_machine, linked_opening, linked_first}
 use Rattle.osal_runs.proofs.Names.{NamesBodies, start_names, names_joined, names_newest, named_next}
 
 module _ (app : Application) where
@@ -123,7 +123,7 @@ module _ (app : Application) (later : NamesLater app) where
       elim (cases_Bool (entry.task == 0)) [
         | inl zero ↦
             let machine : IsOfMachine entry = subst (λ b. IsCalledBy b segments entry) zero called in
-            linked_advance app state segments linked entry (eqb-true entry.task 0 zero) machine.call
+            linked_machine app state segments linked entry (eqb-true entry.task 0 zero) machine.call
         | inr some ↦
             let task : IsOfTask segments entry = subst (λ b. IsCalledBy b segments entry) some called in
             let next = next_joined entry segments task.created (all_front FollowsScript (joined segments entry) (begun app entry) scripts) in

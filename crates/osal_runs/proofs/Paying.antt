@@ -28,6 +28,7 @@ use Rattle.osal_runs.specs.Waiting.{deadlines}
 use Rattle.osal_runs.specs.Potential.{prices_of, lines_cost, script_potential, segments_potential, potential}
 use Rattle.osal_runs.proofs.Segments.{reached_push, first_of_or}
 use Rattle.osal_runs.proofs.LineCosts.{cost_right}
+use Rattle.osal_runs.proofs.Drains.{drains_in, drains_most}
 use Rattle.osal_laws.proofs.DueCounts.{due_counts, deadlines_counted}
 use Rattle.osal_runs.proofs.LineCalls.{IsCreateCall, Refuses, Makes, create_calls}
 use Rattle.osal_runs.proofs.Linking.{begins_none, begun_as, creation_answered}
@@ -108,8 +109,8 @@ module _ (app : Application) (names : NamesLater app) (bare : HandlersAreBare ap
   -- what a call with this reply leaves to be made is paid for, with the task that it creates
   abbrev IsPaidBy : Call → Replied → Type 0
   IsPaidBy made reply =
-      left_in (prices_of app) (after from made reply) + segments_potential (prices_of app) (begun_as app made reply) + due_counts state.time.moment (step state entry.task entry.now made).1 + 1
-      ≤ left_in (prices_of app) from + due_counts state.time.moment state
+      left_in (prices_of app) (after from made reply) + segments_potential (prices_of app) (begun_as app made reply) + due_counts state.time.moment (step state entry.task entry.now made).1 + drains_in (step state entry.task entry.now made).1 + 1
+      ≤ left_in (prices_of app) from + due_counts state.time.moment state + drains_in state
 
   plain_pays : is_creation entry.call ≡ false → IsPaidBy entry.call (reply_of entry.reply)
   plain_pays plain =
@@ -127,7 +128,7 @@ module _ (app : Application) (names : NamesLater app) (bare : HandlersAreBare ap
       let calls : IsCreateCall state stepped = create_calls state entry.task entry.now name body stack priority in
       let may : MayCome from.phase from (said made) stepped.0.answer = subst₂ (λ (c : Call) (r : Replied). MayCome from.phase from (said c) r.answer) same told next in
       let pays = created_pays (prices_of app) from.phase from name body stack priority stepped.0 (creation_answered app state segments linked name body stack priority stepped calls) may in
-      subst₂ IsPaidBy (sym same) (sym told) (omega (arith, begun_left app names stepped.0 name body stack priority, creation_fewer state stepped calls state.time.moment))
+      subst₂ IsPaidBy (sym same) (sym told) (omega (arith, begun_left app names stepped.0 name body stack priority, creation_fewer state stepped calls state.time.moment, drains_most state entry.task entry.now made))
 
   pays : IsPaidBy entry.call (reply_of entry.reply)
   pays =

@@ -10,7 +10,7 @@ use Rattle.osal_idtable.specs.Table.{Active}
 use Rattle.osal_idtable.specs.Faults.{answered}
 use Rattle.osal_idtable.specs.Steps.{unheld, take_out, remove_step}
 use Rattle.osal_object.specs.Objects.{with_table}
-use Rattle.osal_object.specs.Outcomes.{Outcome, Go, Remove, Leave, found_then, carried_out}
+use Rattle.osal_object.specs.Outcomes.{Go, Remove, Leave, found_then, carried_out}
 use Rattle.osal_idtable.proofs.WellFormed.{gone_here, gone_there}
 use Rattle.osal_task.specs.declared.part.Task.{Task}
 use Rattle.osal_task.specs.Tasks.{TaskState, task_at, in_tasks, done}

@@ -1,5 +1,5 @@
 -- How many more entries a run may make.
-use Rattle.std.specs.Prelude.{◌+◌, List, [], ◌∷◌, ℕ, length, slice_index}
+use Rattle.std.specs.Prelude.{◌+◌, ◌/◌, List, [], ◌∷◌, ℕ, length, slice_index}
 use Rattle.osal_machine.specs.Step.{MachineState}
 use Rattle.osal_price.specs.Price.{Prices, line_cost}
 use Rattle.osal_script.specs.declared.phase.Phase.{Phase}
@@ -49,7 +49,12 @@ segments_potential prices [] = 0
 segments_potential prices (segment ∷ segments) =
     segment_potential prices segment + segments_potential prices segments
 
--- how many entries a run may still have: those that its scripts bring about, and an advance for each deadline that
--- lies behind the moment
+-- how many drains take so many bytes
+abbrev pub drains_of : ℕ → ℕ
+drains_of bytes = (bytes + 1023) / 1024
+
+-- how many entries a run may still have: those that its scripts bring about, an advance for each deadline that lies
+-- behind the moment, and the drains of the bytes that are pending on the console
 abbrev pub potential : Application → MachineState → List Segment → ℕ
-potential app state segments = segments_potential (prices_of app) segments + length (deadlines state)
+potential app state segments =
+    segments_potential (prices_of app) segments + length (deadlines state) + drains_of (length state.console.pending)

@@ -1,6 +1,8 @@
 -- Which journals are runs of an application.
-use Rattle.std.specs.Prelude.{◌≡◌, ◌<◌, ◌+◌, ◌==◌, List, [], ◌∷◌, Bool, true, false, Some, None, length}
+use Rattle.std.specs.Prelude.{◌≡◌, ◌<◌, ◌+◌, ◌==◌, ◌&&◌, List, [], ◌∷◌, Bool, true, false, Some, None, length, int_lt, pos}
 use Rattle.std.specs.List.{AllByRecursion}
+use Rattle.osal_base.specs.declared.reply.Answer.{Answer}
+use Rattle.osal_base.specs.declared.reply.Answer.TheVariants as answer
 use Rattle.osal_base.specs.declared.time.Moment.{Moment}
 use Rattle.osal_base.specs.Identifier.{slot_of}
 use Rattle.osal_base.specs.Limits.{version1}
@@ -8,6 +10,7 @@ use Rattle.osal_call.specs.declared.call.Call.{Call}
 use Rattle.osal_call.specs.declared.call.Call.TheVariants as call
 use Rattle.osal_call.specs.declared.call.Entry.{Entry}
 use Rattle.osal_call.specs.Call.{text_of, said}
+use Rattle.osal_console.specs.Console.{drain_limit}
 use Rattle.osal_machine.specs.Step.{MachineState, opening}
 use Rattle.osal_machine.specs.History.{IsLegal, after_entry, replay}
 use Rattle.osal_script.specs.App.{Application, ScriptBody}
@@ -31,11 +34,21 @@ abbrev pub is_advance : Call → Bool
 is_advance (call.Advance to) = true
 is_advance other = false
 
--- an entry of the machine itself makes time go on
+-- whether an answer is a count above 0
+abbrev pub is_some_count : Answer → Bool
+is_some_count (answer.Code code) = int_lt (pos 0) code
+is_some_count other = false
+
+-- whether the machine itself makes a call that is answered so: time goes on, or the console gives some bytes
+abbrev pub is_machine_call : Call → Answer → Bool
+is_machine_call (call.Advance to) reply = is_success reply
+is_machine_call (call.Drain n) reply = (n == drain_limit) && is_some_count reply
+is_machine_call other reply = false
+
+-- an entry of the machine itself
 pub record IsOfMachine (entry : Entry) : Type 0 where
   pub caller : entry.caller ≡ 0
-  pub call : is_advance entry.call ≡ true
-  pub answer : is_success entry.reply.answer ≡ true
+  pub call : is_machine_call entry.call entry.reply.answer ≡ true
 
 -- an entry of a task that was created before: its caller is one more than its slot
 pub record IsOfTask (segments : List Segment) (entry : Entry) : Type 0 where
@@ -112,10 +125,11 @@ pub record IsPartRun (app : Application) (entries : List Entry) : Type 0 where
   pub follows : Follows app entries
   pub timely : IsTimely app entries
 
--- nothing is left to do: no task can go on, and no wait becomes due
+-- nothing is left to do: no task can go on, no wait becomes due, and no byte is pending on the console
 pub record IsSettled (app : Application) (entries : List Entry) : Type 0 where
   pub still : some_can_go (replay version1 entries) (segments_of app entries) ≡ false
   pub due : next_deadline (replay version1 entries) ≡ None
+  pub drained : (replay version1 entries).console.pending ≡ []
 
 -- a run: a front of one with at least one entry, which is settled
 pub record IsRun (app : Application) (entries : List Entry) : Type 0 where

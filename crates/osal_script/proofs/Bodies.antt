@@ -12,14 +12,10 @@ use Rattle.osal_price.specs.Saturated.{saturated, prices_of}
 use Rattle.osal_script.specs.declared.item.Item.{Item}
 use Rattle.osal_script.specs.declared.item.Item.TheVariants as item
 use Rattle.osal_script.specs.App.{ScriptBody, ItemNames, NamesLaterFrom}
-use Rattle.osal_script.specs.Cost.{onto_cost, level_costs, first_cost, costs_from}
+use Rattle.osal_script.specs.Cost.{level_costs, first_cost, costs_from}
 use Rattle.osal_script.specs.Saturated.{onto_saturated, repeated_saturated}
 use Rattle.osal_script.proofs.Lists.{begins_with}
-use Rattle.osal_script.proofs.Costs.{saturated-repeated, saturated_sum}
-
-saturated-onto : (cost : ℕ) (levels : List ℕ) → map saturated (onto_cost cost levels) ≡ onto_saturated (saturated cost) (map saturated levels)
-saturated-onto cost [] = ap (λ (x : ℕ). x ∷ []) (omega arith)
-saturated-onto cost (level ∷ levels) = ap (λ (x : ℕ). x ∷ map saturated levels) (sym (saturated_sum cost level))
+use Rattle.osal_script.proofs.Costs.{saturated-onto, saturated-repeated}
 
 -- two ways to tell the prices agree, by what 64 bits tell, on a tick and on the bodies that a body may name
 pub record Agree (number count : ℕ) (prices others : Prices) : Type 0 where

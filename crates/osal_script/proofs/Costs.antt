@@ -8,7 +8,7 @@ use Rattle.osal_script.specs.declared.item.Item.{Item}
 use Rattle.osal_script.specs.declared.item.Item.TheVariants as item
 use Rattle.osal_script.specs.Cost.{onto_cost, repeated_cost, level_costs}
 use Rattle.osal_script.specs.Nesting.{depth_after, IsNested}
-use Rattle.osal_script.specs.Saturated.{repeated_saturated}
+use Rattle.osal_script.specs.Saturated.{onto_saturated, repeated_saturated}
 use Rattle.osal_script.proofs.Nesting.{repeat_nested, end_nested}
 
 length_onto : (cost : ℕ) (levels : List ℕ) → 0 < length levels → length (onto_cost cost levels) ≡ length levels
@@ -80,6 +80,11 @@ least_sum x y most = omega arith
 -- a sum tells as much as the sum of what is told
 pub saturated_sum : (cost other : ℕ) → saturated (saturated cost + saturated other) ≡ saturated (cost + other)
 saturated_sum cost other = least_sum cost other (2 ^ 64 - 1)
+
+-- a line costs as much by what 64 bits tell of it and of its level
+pub saturated-onto : (cost : ℕ) (levels : List ℕ) → map saturated (onto_cost cost levels) ≡ onto_saturated (saturated cost) (map saturated levels)
+saturated-onto cost [] = ap (λ (x : ℕ). x ∷ []) (omega arith)
+saturated-onto cost (level ∷ levels) = ap (λ (x : ℕ). x ∷ map saturated levels) (sym (saturated_sum cost level))
 
 -- a repeat costs as much by what 64 bits tell of its level
 pub saturated-repeated : (count : ℕ) (levels : List ℕ) → repeated_saturated count (map saturated levels) ≡ map saturated (repeated_cost count levels)

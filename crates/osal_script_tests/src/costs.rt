@@ -26,7 +26,7 @@ fn cost_of(rt: &impl Abort, alloc: Global, lines: &str) -> Result<u64, Fail> {
 }
 
 /// The lines of a body, and what the application costs.
-const COSTS: [(&str, u64); 13] = [
+const COSTS: [(&str, u64); 9] = [
     ("task_create $t \"t\" w 0 1\ntask_delay 0", 26),
     (
         "repeat 2\nrepeat 2\nrepeat 2\ntask_create $t \"t\" w 0 1\nend\nend\ntask_delay 0\nend",
@@ -43,22 +43,6 @@ const COSTS: [(&str, u64); 13] = [
     (
         "repeat 100000\nrepeat 100000\nrepeat 100000\nrepeat 100000\nend\nend\nend\nend\ntask_delay 11",
         7,
-    ),
-    (
-        "queue_put $q \"a\"\nqueue_put $q fill 63 0\nqueue_put $q fill 64 0\nqueue_put $q fill 8192 0",
-        140,
-    ),
-    (
-        "queue_get $q 63 check\nqueue_get $q 64 pend\nqueue_get $q 128 1\nqueue_get $q 4294967295 check",
-        67_108_880,
-    ),
-    (
-        "write $f \"a\"\nwrite $f fill 63 0\nwrite $f fill 64 0\nwrite $f fill 8192 0",
-        140,
-    ),
-    (
-        "read $f 63 check\nread $f 64 pend\nread $f 128 1\nread $f 4294967295 check",
-        67_108_880,
     ),
     (
         "mkfs \"d\" \"l\" 4096\nmount \"d\" \"/m\"\nopen $f \"/m/a\" both rw\nlseek $f -4294967295 end\nclose $f\ncp \"/m/a\" \"/m/b\"\ndir_open $r \"/m\"\ndir_read $r",
@@ -79,8 +63,41 @@ const COSTS: [(&str, u64); 13] = [
 ];
 
 #[test]
-fn turns_tasks_waits_and_bytes_cost(rt: HostRuntime) -> Result<(), Fail> {
+fn turns_tasks_and_waits_cost(rt: HostRuntime) -> Result<(), Fail> {
     for (lines, cost) in COSTS {
+        let found = cost_of(&rt, rt.alloc(), lines)?;
+        assert!(rt; found == cost, "{lines}");
+    }
+    Ok(())
+}
+
+/// The same for lines that carry bytes.
+const BYTE_COSTS: [(&str, u64); 5] = [
+    (
+        "queue_put $q \"a\"\nqueue_put $q fill 63 0\nqueue_put $q fill 64 0\nqueue_put $q fill 8192 0",
+        140,
+    ),
+    (
+        "queue_get $q 63 check\nqueue_get $q 64 pend\nqueue_get $q 128 1\nqueue_get $q 4294967295 check",
+        67_108_880,
+    ),
+    (
+        "write $f \"a\"\nwrite $f fill 63 0\nwrite $f fill 64 0\nwrite $f fill 8192 0",
+        140,
+    ),
+    (
+        "read $f 63 check\nread $f 64 pend\nread $f 128 1\nread $f 4294967295 check",
+        67_108_880,
+    ),
+    (
+        "console_write \"a\"\nconsole_write fill 64 0\nconsole_write fill 8192 0\nconsole_enable\nconsole_disable",
+        148,
+    ),
+];
+
+#[test]
+fn bytes_cost_by_their_number(rt: HostRuntime) -> Result<(), Fail> {
+    for (lines, cost) in BYTE_COSTS {
         let found = cost_of(&rt, rt.alloc(), lines)?;
         assert!(rt; found == cost, "{lines}");
     }

@@ -323,7 +323,7 @@ pub(crate) fn reads_as(
 }
 
 /// The lines of a body, each of them a call.
-const LINES: [&str; 8] = [
+const LINES: [&str; 9] = [
     "task_exit\ntask_delete $t\ntask_set_priority $t 7\ntask_find $t \"a\"\ntask_info $t\ntask_delay 20",
     "queue_create $q \"q\" 50 0x400\nqueue_delete $q\nqueue_put $q \"a\"\nqueue_put $q fill 8192 255\nqueue_get $q 0 check\nqueue_find $q \"q\"\nqueue_info $q",
     "count_sem_create $c \"c\" 32767\ncount_sem_give $c\ncount_sem_take $c 0x7fffffff\ncount_sem_delete $c\ncount_sem_find $c \"c\"\ncount_sem_info $c",
@@ -332,6 +332,7 @@ const LINES: [&str; 8] = [
     "condvar_create $v \"v\"\ncondvar_lock $v\ncondvar_unlock $v\ncondvar_signal $v\ncondvar_broadcast $v\ncondvar_wait $v 1\ncondvar_delete $v\ncondvar_find $v \"v\"",
     "timebase_create $b \"b\"\ntimebase_tick $b 4294967295\ntimebase_free_run $b\ntimebase_delete $b\ntimebase_find $b \"b\"",
     "timer_set $m 0 0x10\ntimer_delete $m\ntimer_find $m \"m\"\ntimer_info $m",
+    "console_write \"x\"\nconsole_disable\nconsole_write fill 8192 0\nconsole_enable -> OS_SUCCESS",
 ];
 
 #[test]
@@ -373,8 +374,8 @@ fn nested_repeats_are_read(rt: HostRuntime) -> Result<(), Fail> {
     Ok(())
 }
 
-/// The put of a body, and its payload.
-const PUTS: [(&str, &[u8]); 6] = [
+/// A line that carries bytes, and its payload.
+const PAYLOADS: [(&str, &[u8]); 8] = [
     ("queue_put $q \"\"", b""),
     (
         "queue_put $q \"a b\\n\\x00\\\"\\\\\\xfF\"",
@@ -384,19 +385,23 @@ const PUTS: [(&str, &[u8]); 6] = [
     ("queue_put $q fill 0 7", b""),
     ("queue_put $q fill 3 0x41", b"AAA"),
     ("queue_put $q fill 0x2 255 -> 0", b"\xff\xff"),
+    ("console_write \"x\\n\" -> 0", b"x\n"),
+    ("console_write fill 3 0x41", b"AAA"),
 ];
 
-/// The payload of the first line, which is a put.
+/// The payload of the first line, which is a put or a write to the console.
 fn payload_of(app: &App) -> Option<&[u8]> {
     let line = line_at(app.main().items(), 0)?;
     match &line.call {
-        ScriptCall::QueuePut { payload, .. } => Some(payload.as_slice()),
+        ScriptCall::QueuePut { payload, .. } | ScriptCall::ConsoleWrite { payload } => {
+            Some(payload.as_slice())
+        }
         _ => None,
     }
 }
 
-/// Whether a line puts this payload.
-fn puts(rt: &impl Abort, alloc: Global, line: &str, wanted: &[u8]) -> Result<bool, Fail> {
+/// Whether a line carries this payload.
+fn carries(rt: &impl Abort, alloc: Global, line: &str, wanted: &[u8]) -> Result<bool, Fail> {
     let text = with_lines(alloc, line)?;
     let app = app_of(rt, alloc, text.as_slice());
     Ok(payload_of(&app) == Some(wanted))
@@ -404,11 +409,11 @@ fn puts(rt: &impl Abort, alloc: Global, line: &str, wanted: &[u8]) -> Result<boo
 
 #[test]
 fn a_payload_is_a_string_or_one_byte_many_times(rt: HostRuntime) -> Result<(), Fail> {
-    for (line, wanted) in PUTS {
-        let same = puts(&rt, rt.alloc(), line, wanted)?;
+    for (line, wanted) in PAYLOADS {
+        let same = carries(&rt, rt.alloc(), line, wanted)?;
         assert!(rt; same, "{line}");
     }
-    let longest = puts(&rt, rt.alloc(), "queue_put $q fill 8192 1", &[1; 8192])?;
+    let longest = carries(&rt, rt.alloc(), "queue_put $q fill 8192 1", &[1; 8192])?;
     assert!(rt; longest);
     Ok(())
 }
@@ -507,6 +512,27 @@ fn wrong_arguments_of_timebases_and_timers_are_refused(rt: HostRuntime) -> Resul
     Ok(())
 }
 
+/// Lines of the console with wrong arguments.
+const WRONG_CONSOLES: [&str; 8] = [
+    "console_write",
+    "console_write x",
+    "console_write \"x\" \"y\"",
+    "console_write $c \"x\"",
+    "console_write fill 8193 0",
+    "console_write fill 1 0 0",
+    "console_enable 1",
+    "console_disable \"console\"",
+];
+
+#[test]
+fn wrong_arguments_of_the_console_are_refused(rt: HostRuntime) -> Result<(), Fail> {
+    for line in WRONG_CONSOLES {
+        let wrong = is_wrong(&rt, rt.alloc(), line)?;
+        assert!(rt; wrong, "{line}");
+    }
+    Ok(())
+}
+
 /// An application with these lines in a handler, from line 5 on.
 pub(crate) fn in_a_handler(alloc: Global, lines: &str) -> Result<Vec<u8>, Fail> {
     let mut text = Vec::from_slice(alloc, b"osal-app 1\ntask main\nend\nhandler h\n".as_slice())?;
@@ -585,12 +611,13 @@ fn a_handler_does_not_wait(rt: HostRuntime) -> Result<(), Fail> {
 }
 
 /// What a handler may do.
-const HANDLER_LINES: [&str; 5] = [
+const HANDLER_LINES: [&str; 6] = [
     "bin_sem_take $s check",
     "count_sem_take $c check",
     "queue_get $q 8 check",
     "task_delete $t -> OS_SUCCESS",
     "timebase_free_run $b\ntimer_info $m\nmut_sem_give $m\nhold $b",
+    "console_write \"x\"\nconsole_disable\nconsole_enable",
 ];
 
 #[test]

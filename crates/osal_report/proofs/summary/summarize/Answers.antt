@@ -23,5 +23,4 @@ returns-clause-status c =
     let drafts = c.in_ok-drafts.ensures ∙ ap (λ entries. map draft_of (segments_of c.args.app.now entries)) c.entries.ensures in
     let stalls = c.some_stalled.ensures ∙ ap (list_any (λ (draft : DraftState). is_stalled draft.script.phase)) (c.as_slice-2.ensures.value ∙ drafts) ∙ stalled_of_drafts segments in
     let fails = c.in_ok-report.ensures.fail ∙ ap (sum_by (λ (draft : DraftState). draft.fail)) (c.as_slice.ensures.value ∙ drafts) ∙ failed_of_drafts segments in
-    c.status-status.ensures
-    ∙ status_by_end c.args.app.now c.args.journal.now.entries c.some_stalled.result _ c.bodies.ensures.later c.requires stalls (none_fails _ _ fails)
+    status_by_end c.args.app.now c.args.journal.now.entries c.some_stalled.result _ c.bodies.ensures.later c.requires stalls (none_fails _ _ fails)

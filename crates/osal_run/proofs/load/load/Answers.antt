@@ -1,25 +1,10 @@
-use Rattle.std.proofs.Common.{map, string_bytes, sym, subst, Ok}
-use Rattle.osal_outside.specs.Causes.{WhereTold}
-use Rattle.osal_outside.specs.Shelf.{OpenLeaves, AnswersUntold}
-use Rattle.osal_run.proofs.Loaded.{refused_usage, refused_missing, open_failed, of_open, unopened}
+-- An application that is made is loaded whatever files there are.
+use Rattle.std.proofs.Common.{sym, subst}
+use Rattle.osal_run.specs.Asked.{asked}
+use Rattle.osal_run.specs.Loading.{Loads}
+use Rattle.osal_run.proofs.Loaded.{by_making}
 use Rattle.osal_run.proofs.load.load.Goals as goal
 
-pub returns-in_default-clause-told : goal.returns-in_default-clause-told
-returns-in_default-clause-told g c =
-    refused_usage (g.S.Shelf.content c.args.shelf.now) (map string_bytes c.args.words.now) (sym c.in_default.ensures)
-
-pub returns-in-Ok-Ready-clause-told : goal.returns-in-Ok-Ready-clause-told
-returns-in-Ok-Ready-clause-told g c =
-    of_open (g.S.Shelf.content c.args.shelf.now) (g.S.Shelf.content c.open.new.self) (map string_bytes c.args.words.now) c.in-Some.name.now c.load_open.result (sym c.in-Some.ensures) (subst (λ opened. WhereTold (g.S.Shelf.content c.args.shelf.now) (g.S.Shelf.content c.open.new.self) (OpenLeaves c.in-Some.name.now (Ok opened))) c.in-Ok-Ready.field-0-is c.in-Ok-Ready.ensures.told) c.load_open.ensures.told
-
-pub returns-in-Ok-NotFound-clause-told : goal.returns-in-Ok-NotFound-clause-told
-returns-in-Ok-NotFound-clause-told g c =
-    refused_missing (g.S.Shelf.content c.args.shelf.now) (g.S.Shelf.content c.open.new.self) (map string_bytes c.args.words.now) c.in-Some.name.now (sym c.in-Some.ensures) (subst (λ opened. AnswersUntold (g.S.Shelf.content c.args.shelf.now) (Ok opened)) c.in-Ok-NotFound.field-0-is c.in-Ok-NotFound.ensures.untold) (subst (λ opened. WhereTold (g.S.Shelf.content c.args.shelf.now) (g.S.Shelf.content c.open.new.self) (OpenLeaves c.in-Some.name.now (Ok opened))) c.in-Ok-NotFound.field-0-is c.in-Ok-NotFound.ensures.told)
-
-pub returns-in-Ok-Failed-clause-told : goal.returns-in-Ok-Failed-clause-told
-returns-in-Ok-Failed-clause-told g c =
-    open_failed (g.S.Shelf.content c.args.shelf.now) (g.S.Shelf.content c.open.new.self) (map string_bytes c.args.words.now) c.in-Some.name.now (sym c.in-Some.ensures) (subst (λ opened. WhereTold (g.S.Shelf.content c.args.shelf.now) (g.S.Shelf.content c.open.new.self) (OpenLeaves c.in-Some.name.now (Ok opened))) c.in-Ok-Failed.field-0-is c.in-Ok-Failed.ensures.told)
-
-pub returns-in-Err-clause-told : goal.returns-in-Err-clause-told
-returns-in-Err-clause-told g c =
-    unopened (g.S.Shelf.content c.args.shelf.now) (map string_bytes c.args.words.now)
+pub returns-in-Make-clause-told : goal.returns-in-Make-clause-told
+returns-in-Make-clause-told g c =
+    subst (λ request. Loads (g.S.Shelf.content c.args.shelf.now) (asked request) c.make.result) (sym c.in-Make.is) (by_making (g.S.Shelf.content c.args.shelf.now) c.in-Make.workers c.make.result c.make.ensures.found)

@@ -1,11 +1,12 @@
 use Rattle.std.proofs.Common.{◌≡◌, ◌+◌, ◌-◌, ◌∙◌, ℕ, Some, length, drop, sym, ap, map, arith}
+use Rattle.osal_price.specs.Price.{line_cost}
 use Rattle.osal_price.specs.Saturated.{saturated, prices_of}
 use Rattle.osal_script.specs.declared.item.Item.TheVariants as item
-use Rattle.osal_script.specs.Saturated.{repeated_saturated}
+use Rattle.osal_script.specs.Saturated.{onto_saturated, repeated_saturated}
 use Rattle.osal_script.specs.Cost.{level_costs}
 use Rattle.osal_script.specs.Nesting.{depth_after}
 use Rattle.osal_script.proofs.Nesting.{repeat_nested, end_nested}
-use Rattle.osal_script.proofs.Costs.{length_saturated, nested_at, one_before, saturated-repeated}
+use Rattle.osal_script.proofs.Costs.{length_saturated, nested_at, one_before, saturated-onto, saturated-repeated}
 use Rattle.osal_script.proofs.cost.items_cost.Goals as goal
 
 pub add-requires : goal.add-requires
@@ -13,6 +14,24 @@ add-requires c =
     let here = nested_at c.loop-at.at c.args.items.now c.requires in
     let many = length_saturated (prices_of c.args.prices.now) here.0 (drop c.loop-at.at c.args.items.now) here.2 in
     omega (arith, ap length c.loop-at.invariant.levels, many)
+
+pub loop-at-preserved-in-Call : goal.loop-at-preserved-in-Call
+loop-at-preserved-in-Call c =
+    let items = c.args.items.now in
+    let prices = prices_of c.args.prices.now in
+    let line = c.in-Call.line in
+    let rest = drop c.loop-at.at items in
+    let cost = line_cost prices line.call in
+    let before = one_before items c.loop-at.at c.index-items-at.result (item.Call line) (omega arith) (omega arith) c.index-items-at.is c.in-Call.is in
+    record {
+      within = omega arith;
+      levels =
+          c.add.ensures
+          ∙ ap (λ (one : ℕ). onto_saturated one c.loop-at.levels) c.line_cost.ensures
+          ∙ ap (onto_saturated (saturated cost)) c.loop-at.invariant.levels
+          ∙ sym (saturated-onto cost (level_costs prices rest))
+          ∙ ap (map saturated) (ap (level_costs prices) (sym before));
+    }
 
 pub repeat-requires : goal.repeat-requires
 repeat-requires c =

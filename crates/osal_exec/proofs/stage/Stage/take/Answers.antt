@@ -1,8 +1,10 @@
 use Rattle.std.proofs.Common.{◌+◌, List, Option, sym, ap, subst, ◌∙◌}
+use Rattle.osal_laws.specs.ConsoleText.{is_drain}
 use Rattle.osal_runs.specs.Segments.{begun}
-use Rattle.osal_exec.specs.Running.{Running, with_begun}
+use Rattle.osal_exec.specs.Running.{Running, runner_at, with_begun}
 use Rattle.osal_exec.specs.Driving.{MakesEntry, drive_of}
-use Rattle.osal_exec.proofs.Taking.{room_left, small_begun, driven_on}
+use Rattle.osal_exec.proofs.Taking.{never_drains, room_left, small_begun, driven_on}
+use Rattle.osal_exec.proofs.Telling.{drained_still}
 use Rattle.osal_exec.proofs.stage.Stage.take.Goals as goal
 
 pub admit-requires : goal.admit-requires
@@ -26,3 +28,7 @@ returns-clause-driven g c =
       makes = subst (λ task. MakesEntry (c.args.slot + 1) task c.args.call c.args.self.now.whole c.entry_of.new.whole c.in_ok-made.made) c.id-id.ensures c.in_ok-made.ensures;
       runners = c.admit.ensures ∙ ap (λ (list : List (Option Running)). with_begun list (begun c.args.app.now c.in_ok-made.made)) c.follow.ensures;
     })
+
+pub returns-clause-undrained : goal.returns-clause-undrained
+returns-clause-undrained g c =
+    drained_still c.args.journal.now.entries c.push.new.self.entries c.in_ok-made.made c.push.ensures.entries (ap is_drain c.in_ok-made.ensures.of_call ∙ never_drains c.args.self.now.whole (runner_at c.args.self.now.runners c.args.slot) c.args.call c.requires.may)

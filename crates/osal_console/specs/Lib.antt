@@ -1,0 +1,3 @@
+pub use Rattle.osal_call.specs.Call
+pub use Rattle.osal_object.specs.Objects
+pub mod Console

@@ -1,0 +1,31 @@
+-- Arguments by what they are: those that the code has, and the shapes that most calls share.
+use Rattle.std.specs.Prelude.{◌==◌, Bool, true, false, List, [], ◌∷◌, ℕ, length}
+use Rattle.osal_journal.specs.declared.argument.Argument.{Argument as Given}
+use Rattle.osal_journal.specs.declared.argument.Argument.TheVariants as given
+use Rattle.osal_journal.specs.Spelled.{Argument, Text, Id, Number, Offset, Wait, Flags, Use, From}
+
+-- an argument by what it says
+abbrev pub meant : Given → Argument
+meant (given.Text text) = Text text.now.bytes
+meant (given.Id id) = Id id
+meant (given.Number number) = Number number
+meant (given.Offset offset) = Offset offset
+meant (given.Wait wait) = Wait wait
+meant (given.Flags flags) = Flags flags
+meant (given.Access access) = Use access
+meant (given.Whence whence) = From whence
+
+-- whether there is an identifier in front of that many more
+abbrev pub is_id_before : ℕ → List Argument → Bool
+is_id_before more (Id id ∷ arguments) = length arguments == more
+is_id_before more other = false
+
+-- whether there is a text alone
+abbrev pub is_text : List Argument → Bool
+is_text (Text text ∷ []) = true
+is_text other = false
+
+-- whether there is a number alone
+abbrev pub is_number : List Argument → Bool
+is_number (Number number ∷ []) = true
+is_number other = false

@@ -1,0 +1,99 @@
+//! The arguments of calls, and how each is spelled.
+ghost use Rattle.std.specs.Prelude.{◌≡◌, ◌++◌, map, OnOk};
+ghost use Rattle.osal_journal.specs.Spelled.{wait_text as text_of_wait, flags_text as text_of_flags, access_text as text_of_access, whence_text as text_of_whence, argument_text, arguments_text};
+ghost use Rattle.osal_journal.specs.Shapes.{meant};
+
+use osal_base::{Access, Bytes, OpenFlags, OsalId, OutOfMemory, Timeout, Whence};
+use osal_spelling::{push_bytes, push_decimal, push_id, push_quoted, push_signed};
+
+/// An argument of a call.
+#[derive(Clone, Copy)]
+pub(crate) enum Argument<'a> {
+    Text(&'a Bytes),
+    Id(OsalId),
+    Number(u64),
+    Offset(i64),
+    Wait(Timeout),
+    Flags(OpenFlags),
+    Access(Access),
+    Whence(Whence),
+}
+
+fn push_wait(out: &mut Vec<u8>, wait: Timeout) -> Result<(), OutOfMemory>
+    ensures { OnOk result (out.new.items ≡ out.old.items ++ text_of_wait wait) }
+{
+    match wait {
+        Timeout::Check | Timeout::Ms(0) => push_bytes(out, b"check"),
+        Timeout::Pend => push_bytes(out, b"pend"),
+        Timeout::Ms(ms) => push_decimal(out, u64::from(ms)),
+    }
+}
+
+fn flags_text(flags: OpenFlags) -> &'static [u8]
+    ensures { result.now ≡ text_of_flags flags }
+{
+    match flags {
+        OpenFlags::Neither => b"none",
+        OpenFlags::Create => b"create",
+        OpenFlags::Truncate => b"truncate",
+        OpenFlags::Both => b"both",
+    }
+}
+
+fn access_text(access: Access) -> &'static [u8]
+    ensures { result.now ≡ text_of_access access }
+{
+    match access {
+        Access::Ro => b"ro",
+        Access::Wo => b"wo",
+        Access::Rw => b"rw",
+    }
+}
+
+fn whence_text(whence: Whence) -> &'static [u8]
+    ensures { result.now ≡ text_of_whence whence }
+{
+    match whence {
+        Whence::Set => b"set",
+        Whence::Cur => b"cur",
+        Whence::End => b"end",
+    }
+}
+
+fn push_argument(out: &mut Vec<u8>, argument: &Argument) -> Result<(), OutOfMemory>
+    ensures { OnOk result (out.new.items ≡ out.old.items ++ argument_text (meant argument.now)) }
+{
+    match argument {
+        Argument::Text(text) => push_quoted(out, text.as_slice()),
+        Argument::Id(id) => push_id(out, u64::from(id.raw())),
+        Argument::Number(number) => push_decimal(out, *number),
+        Argument::Offset(offset) => push_signed(out, *offset),
+        Argument::Wait(wait) => push_wait(out, *wait),
+        Argument::Flags(flags) => push_bytes(out, flags_text(*flags)),
+        Argument::Access(access) => push_bytes(out, access_text(*access)),
+        Argument::Whence(whence) => push_bytes(out, whence_text(*whence)),
+    }
+}
+
+fn push_arguments(out: &mut Vec<u8>, arguments: &[Argument]) -> Result<(), OutOfMemory>
+    ensures { OnOk result (out.new.items ≡ out.old.items ++ arguments_text (map meant arguments.now)) }
+{
+    for argument in arguments {
+        push_bytes(out, b" ")?;
+        push_argument(out, argument)?;
+    }
+    Ok(())
+}
+
+/// Appends a name, and behind it some arguments, each behind a space.
+pub(crate) fn push_spelled(
+    out: &mut Vec<u8>,
+    name: &[u8],
+    arguments: &[Argument],
+) -> Result<(), OutOfMemory>
+    ensures { OnOk result (out.new.items
+        ≡ out.old.items ++ (name.now ++ arguments_text (map meant arguments.now))) }
+{
+    push_bytes(out, name)?;
+    push_arguments(out, arguments)
+}

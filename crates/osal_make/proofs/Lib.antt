@@ -1,0 +1,11 @@
+mod Counted
+mod Forms
+mod Names
+mod Text
+mod Later
+mod Steps
+mod MainBody
+mod WorkerBodies
+mod Whole
+mod Cheap
+mod Nested

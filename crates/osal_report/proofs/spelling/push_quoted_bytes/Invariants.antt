@@ -1,8 +1,0 @@
--- What was pushed is the spelling of the bytes so far.
-use Rattle.std.proofs.Common.{◌≡◌, ◌++◌, take}
-use Rattle.std.specs.List.{flat_map}
-use Rattle.osal_report.specs.Spelling.{quoted_byte}
-use Rattle.osal_report.proofs.spelling.push_quoted_bytes.Given as goal
-
-abbrev pub invariant-loop-byte : goal.invariant-loop-byte
-invariant-loop-byte l = l.out.items ≡ l.initial.out.items ++ flat_map quoted_byte (take l.byte-index l.bytes)
