@@ -1,11 +1,10 @@
 -- What a driver tells a sink over several of its calls.
-use Rattle.std.proofs.Common.{◌≡◌, ◌+◌, ◌++◌, ℕ, true, false, cond, List, [], ◌∷◌, Some, None, length, take, nat_lt, refl, sym, ap, subst, ◌∙◌, append_assoc, append-nil, length-append, arith}
-use Rattle.std.proofs.Math.Seq.{take-length, take-append-add}
+use Rattle.std.proofs.Common.{◌≡◌, ◌++◌, ℕ, true, false, cond, List, [], ◌∷◌, length, nat_lt, refl, sym, ap, subst, ◌∙◌, append_assoc, append-nil, arith}
 use Rattle.std.proofs.lemmas.Bool.{ltb-false}
-use Rattle.std.proofs.lemmas.List.{take-append-le}
 use Rattle.osal_base.specs.Limits.{version1}
 use Rattle.osal_outside.specs.Causes.{WhereTold}
 use Rattle.osal_outside.specs.Sink.{Appends, AppendsPrefix}
+use Rattle.osal_outside.proofs.Appended.{none_appended, whole_prefix, longer_prefix, both_appended, then_prefix}
 use Rattle.osal_call.specs.declared.call.Entry.{Entry}
 use Rattle.osal_console.specs.Console.{ConsoleState, is_pending}
 use Rattle.osal_machine.specs.History.{IsLegal, replay}
@@ -13,60 +12,9 @@ use Rattle.osal_laws.specs.ConsoleText.{console_text, is_drain, drained, drained
 use Rattle.osal_laws.proofs.ConsoleText.{console_kept}
 use Rattle.osal_exec.specs.Telling.{Written, Tells, TellsPrefix}
 
--- nothing was appended
-pub none_told : (a : Written) → WhereTold a a (Appends [])
-none_told None = tt
-none_told (Some x) = sym (append-nil x)
-
--- all of the bytes are a prefix of them
-pub whole_prefix : (a b : Written) (bytes : List ℕ) → WhereTold a b (Appends bytes) → WhereTold a b (AppendsPrefix bytes)
-whole_prefix None None bytes told = tt
-whole_prefix (Some x) (Some y) bytes told =
-    record { count = length bytes; within = omega arith; appended = told ∙ ap (λ v. x ++ v) (sym (take-length bytes)) }
-whole_prefix None (Some y) bytes told = absurd told
-whole_prefix (Some x) None bytes told = absurd told
-
--- a prefix of the front is one of the whole
-pub longer_prefix : (a b : Written) (front rest : List ℕ) → WhereTold a b (AppendsPrefix front) → WhereTold a b (AppendsPrefix (front ++ rest))
-longer_prefix None None front rest told = tt
-longer_prefix (Some x) (Some y) front rest told =
-    record {
-      count = told.count;
-      within = let within = told.within in omega (arith, length-append front rest);
-      appended = told.appended ∙ ap (λ v. x ++ v) (sym (take-append-le told.count front rest told.within));
-    }
-longer_prefix None (Some y) front rest told = absurd told
-longer_prefix (Some x) None front rest told = absurd told
-
--- bytes were appended, and then more
-pub told_more : (a b c : Written) (first second : List ℕ) → WhereTold a b (Appends first) → WhereTold b c (Appends second) → WhereTold a c (Appends (first ++ second))
-told_more None None None first second one two = tt
-told_more (Some x) (Some y) (Some z) first second one two =
-    two ∙ ap (λ v. v ++ second) one ∙ append_assoc x first second
-told_more None None (Some z) first second one two = absurd two
-told_more None (Some y) c first second one two = absurd one
-told_more (Some x) None c first second one two = absurd one
-told_more (Some x) (Some y) None first second one two = absurd two
-
--- bytes were appended, and then a prefix of more
-pub told_prefix : (a b c : Written) (first second : List ℕ) → WhereTold a b (Appends first) → WhereTold b c (AppendsPrefix second) → WhereTold a c (AppendsPrefix (first ++ second))
-told_prefix None None None first second one two = tt
-told_prefix (Some x) (Some y) (Some z) first second one two =
-    record {
-      count = length first + two.count;
-      within = let within = two.within in omega (arith, length-append first second);
-      appended =
-          two.appended ∙ ap (λ v. v ++ take two.count second) one ∙ append_assoc x first (take two.count second)
-          ∙ ap (λ v. x ++ v) (sym (take-append-add first second two.count));
-    }
-told_prefix None None (Some z) first second one two = absurd two
-told_prefix None (Some y) c first second one two = absurd one
-told_prefix (Some x) None c first second one two = absurd one
-told_prefix (Some x) (Some y) None first second one two = absurd two
-
 -- entries that drain nothing tell nothing
 pub tells_none : (old new : List Entry) (a : Written) → drained new ≡ drained old → Tells old new a a
-tells_none old new a same = ([], same ∙ sym (append-nil (drained old)), none_told a)
+tells_none old new a same = ([], same ∙ sym (append-nil (drained old)), none_appended a)
 
 -- what is told in full is told as a prefix
 pub tells_as_prefix : (old new : List Entry) (a b : Written) → Tells old new a b → TellsPrefix old new a b
@@ -86,12 +34,12 @@ module _ (old mid new : List Entry) where
     -- what is told, and then more
     pub tells_more : Tells old mid a b → Tells mid new b c → Tells old new a c
     tells_more one two =
-        (one.0 ++ two.0, both_drained one.0 two.0 one.1 two.1, told_more a b c one.0 two.0 one.2 two.2)
+        (one.0 ++ two.0, both_drained one.0 two.0 one.1 two.1, both_appended a b c one.0 two.0 one.2 two.2)
 
     -- what is told, and then a prefix of more
     pub tells_prefix : Tells old mid a b → TellsPrefix mid new b c → TellsPrefix old new a c
     tells_prefix one two =
-        (one.0 ++ two.0, both_drained one.0 two.0 one.1 two.1, told_prefix a b c one.0 two.0 one.2 two.2)
+        (one.0 ++ two.0, both_drained one.0 two.0 one.1 two.1, then_prefix a b c one.0 two.0 one.2 two.2)
 
   -- what is told, and then entries that drain nothing
   pub tells_same : (a b : Written) → Tells old mid a b → drained new ≡ drained mid → Tells old new a b
@@ -101,12 +49,12 @@ module _ (old new : List Entry) (a b c : Written) where
   -- all that was drained is told, also with more entries
   pub drained_told : WhereTold a b (Appends (drained old)) → Tells old new b c → WhereTold a c (Appends (drained new))
   drained_told one two =
-      subst (λ bytes. WhereTold a c (Appends bytes)) (sym two.1) (told_more a b c (drained old) two.0 one two.2)
+      subst (λ bytes. WhereTold a c (Appends bytes)) (sym two.1) (both_appended a b c (drained old) two.0 one two.2)
 
   -- the same of a prefix
   pub drained_prefix : WhereTold a b (Appends (drained old)) → TellsPrefix old new b c → WhereTold a c (AppendsPrefix (drained new))
   drained_prefix one two =
-      subst (λ bytes. WhereTold a c (AppendsPrefix bytes)) (sym two.1) (told_prefix a b c (drained old) two.0 one two.2)
+      subst (λ bytes. WhereTold a c (AppendsPrefix bytes)) (sym two.1) (then_prefix a b c (drained old) two.0 one two.2)
 
 -- one more entry drains its bytes
 pub drained_push : (entries : List Entry) (entry : Entry) → drained (entries ++ entry ∷ []) ≡ drained entries ++ drained_by entry

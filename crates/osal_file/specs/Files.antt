@@ -1,5 +1,5 @@
 -- File systems and where they are mounted, the files and directories that are open, and what a call does at a path.
-use Rattle.std.specs.Prelude.{◌==◌, ◌&&◌, ◌||◌, List, ℕ, Bool, false, Option, Some, None, Result, Ok, Err, length, replicate, slice_index_or, slice_set}
+use Rattle.std.specs.Prelude.{◌==◌, ◌&&◌, ◌||◌, List, ℕ, Bool, false, Option, Some, None, Result, Ok, Err, replicate}
 use Rattle.std.specs.List.{list_any}
 use Rattle.std.specs.Ordering.{eq_by_cmp}
 use Rattle.std.specs.FinMap as map
@@ -7,7 +7,7 @@ use Rattle.osal_base.specs.declared.status.Status.{Status}
 use Rattle.osal_base.specs.declared.status.Status.TheVariants as status
 use Rattle.osal_base.specs.declared.id.ObjType.TheVariants as kind
 use Rattle.osal_base.specs.declared.limits.Limits.{Limits}
-use Rattle.osal_base.specs.Identifier.{type_number, slot_of}
+use Rattle.osal_base.specs.Identifier.{type_number}
 use Rattle.osal_base.specs.Reply.{Replied, refusal, success}
 use Rattle.osal_idtable.specs.Table.{Active, active_at}
 use Rattle.osal_object.specs.Objects.{ObjectsState, no_objects, with_value}
@@ -19,6 +19,7 @@ use Rattle.osal_volume.specs.Volume.{VolumeState}
 use Rattle.osal_file.specs.declared.system.FileSystem.{FileSystem}
 use Rattle.osal_file.specs.declared.opened.OpenFile.{OpenFile}
 use Rattle.osal_file.specs.Opened.{Directory}
+pub use Rattle.osal_slots.specs.Slots.{slot_among, in_slot, with_slot}
 
 -- the file systems, the identifiers of open directories, the mounts; the volumes, each in the slot of its file system's
 -- identifier; and what is open: each file in the slot of its stream's identifier, each directory in that of its own
@@ -56,18 +57,6 @@ system_at files id = active_at files.systems.table id
 -- another file system in the place of the one under an identifier
 abbrev pub with_system : FilesState → ℕ → FileSystem → FilesState
 with_system files id system = record files { systems = with_value files.systems id system }
-
--- the slot of an identifier among some places
-abbrev pub slot_among : {X : Type 0} → List (Option X) → ℕ → ℕ
-slot_among places id = slot_of id (length places)
-
--- what stands in the slot of an identifier
-abbrev pub in_slot : {X : Type 0} → List (Option X) → ℕ → Option X
-in_slot places id = slice_index_or places (slot_among places id) None
-
--- the same with something else in that slot
-abbrev pub with_slot : {X : Type 0} → List (Option X) → ℕ → Option X → List (Option X)
-with_slot places id change = slice_set places (slot_among places id) change
 
 -- another volume of a file system
 abbrev pub with_volume : FilesState → ℕ → VolumeState → FilesState

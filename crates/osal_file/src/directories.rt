@@ -4,9 +4,9 @@ ghost use Rattle.osal_base.specs.Reply.{replied, success};
 ghost use Rattle.osal_volume.specs.Volume.{content_at, is_directory};
 ghost use Rattle.osal_file.specs.Directories.{names_in, dir_open, dir_read, dir_rewind, dir_close};
 
-use crate::slots::slot_among;
 use crate::{Files, OpenDirectory};
 use osal_base::{Ack, Bytes, Name, OsalId, OutOfMemory, Room, Status};
+use osal_slots::slot_among;
 use osal_volume::{Kind, Volume};
 use std::alloc::Global;
 

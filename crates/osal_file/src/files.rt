@@ -1,5 +1,5 @@
 //! The file systems, and what is open on them.
-ghost use Rattle.std.specs.Prelude.{◌≡◌, IfOk, None, replicate};
+ghost use Rattle.std.specs.Prelude.{◌≡◌, IfOk};
 ghost use Rattle.osal_base.specs.Limits.{Fits};
 ghost use Rattle.osal_file.specs.Files.{no_files};
 
@@ -8,6 +8,7 @@ use crate::{OpenDirectory, OpenFile};
 use osal_base::{Limits, ObjType, OutOfMemory};
 use osal_object::Objects;
 use osal_path::MountMap;
+use osal_slots::empty_slots;
 use osal_volume::Volume;
 use std::alloc::Global;
 use std::marker::Model;
@@ -73,15 +74,4 @@ impl Files {
             open_directories,
         })
     }
-}
-
-// So many slots in which nothing stands.
-fn empty_slots<T>(alloc: Global, count: u32) -> Result<Vec<Option<T>>, OutOfMemory>
-    ensures { IfOk result (λ slots. slots.items ≡ replicate count None) }
-{
-    let mut slots = Vec::with_capacity(alloc, count as usize)?;
-    for _i in 0..count {
-        slots.push_reserved(None);
-    }
-    Ok(slots)
 }

@@ -8,7 +8,6 @@ mod held;
 mod nodes;
 mod opened;
 mod paths;
-mod slots;
 mod streams;
 mod system;
 mod systems;

@@ -15,10 +15,9 @@ ghost use Rattle.osal_file.specs.Nodes.{unless_open, told, is_removable, remove,
 mod copies;
 
 use crate::Files;
-use crate::paths::in_slot;
-use crate::slots::slot_among;
 use osal_base::{Ack, Bytes, Name, OsalId, Room, Status};
 use osal_path::Trail;
+use osal_slots::{in_slot, slot_among};
 use osal_volume::{Kind, VolFault, Volume};
 
 impl Files {

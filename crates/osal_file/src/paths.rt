@@ -1,14 +1,13 @@
 //! Where a path leads, what stands in the slot of an identifier, and what is open at a path.
-ghost use Rattle.std.specs.Prelude.{◌≡◌, ◌<◌, ◌==◌, ◌&&◌, length, option_copied};
+ghost use Rattle.std.specs.Prelude.{◌≡◌, ◌==◌, ◌&&◌};
 ghost use Rattle.std.specs.List.{list_any};
 ghost use Rattle.osal_path.specs.Mounts.{resolve};
 ghost use Rattle.osal_tree.specs.Paths.{is_within};
 ghost use Rattle.osal_file.specs.declared.opened.OpenFile.{OpenFile};
 ghost use Rattle.osal_file.specs.Opened.{Directory};
-ghost use Rattle.osal_file.specs.Files.{in_slot, passes, is_same};
+ghost use Rattle.osal_file.specs.Files.{passes, is_same};
 ghost use Rattle.osal_file.specs.Files.{is_file_open, is_directory_open, is_open_within};
 
-use crate::slots::slot_among;
 use crate::{Files, OpenDirectory, OpenFile};
 use osal_base::{Bytes, Name, OsalId, Status};
 use osal_path::Trail;
@@ -46,14 +45,6 @@ impl Files {
         some_file_within(&self.open_files, id, at)
             || some_directory_within(&self.open_directories, id, at)
     }
-}
-
-/// What stands in the slot of an identifier.
-pub(crate) fn in_slot<T>(places: &[Option<T>], id: OsalId) -> Option<&T>
-    requires { 0 < length places.now }
-    ensures { option_copied result ≡ in_slot places.now id }
-{
-    places[slot_among(places, id)].as_ref()
 }
 
 fn some_file_within(places: &[Option<OpenFile>], id: OsalId, at: &[Name]) -> bool

@@ -11,12 +11,11 @@ ghost use Rattle.osal_file.specs.Streams.{read, write, lseek, close};
 mod opening;
 mod places;
 
-use crate::paths::in_slot;
-use crate::slots::slot_among;
 use crate::{Files, OpenFile};
 use opening::{is_unopened, may_read, may_write, open_volume, truncates};
 use osal_base::{Access, Ack, Answer, Bytes, OpenFlags, OsalId, Room, Status, Whence};
 use osal_path::Trail;
+use osal_slots::{in_slot, slot_among};
 use osal_volume::Volume;
 use places::{placed, read_from, seeks_from, write_to};
 

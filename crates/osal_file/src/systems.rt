@@ -6,12 +6,12 @@ ghost use Rattle.osal_base.specs.Reply.{replied, success};
 ghost use Rattle.osal_file.specs.Files.{system_at, at_names, is_open_within, passes};
 ghost use Rattle.osal_file.specs.Systems.{is_device, is_size, system_of, in_found, mounted_at, volume_text, mkfs, mount, unmount, rmfs, stat_volume};
 
-use crate::slots::slot_among;
 use crate::{FileSystem, Files, OpenDirectory, OpenFile};
 use itoa::Buffer;
 use osal_base::{Ack, Bytes, Name, OsalId, OutOfMemory, Room, Status};
 use osal_idtable::{status_of_id, status_of_name};
 use osal_path::{Trail, split};
+use osal_slots::slot_among;
 use osal_volume::Volume;
 use std::alloc::Global;
 

@@ -1,39 +1,9 @@
 -- A text that is written in pieces: what was sent so far is a front of it.
-use Rattle.std.proofs.Common.{◌≡◌, ℕ, List, [], ◌++◌, length, take, drop, Option, Some, None, refl, sym, ap, ◌∙◌, append_assoc, append-nil, length-append, arith}
-use Rattle.std.proofs.lemmas.List.{take-append-drop}
-use Rattle.std.proofs.Math.Seq.{take-append_seam}
+use Rattle.std.proofs.Common.{◌≡◌, ℕ, List, [], ◌++◌, Option, sym, ap, ◌∙◌, append_assoc, append-nil}
 use Rattle.osal_outside.specs.Causes.{WhereTold}
 use Rattle.osal_outside.specs.Sink.{Appends, AppendsPrefix}
+use Rattle.osal_outside.proofs.Appended.{both_appended, front_appended, prefix_appended}
 use Rattle.osal_journal.specs.Writing.{IsSentTo}
-
--- what was appended in two pieces
-both_appended : (a b c : Option (List ℕ)) (first second : List ℕ) → WhereTold a b (Appends first) → WhereTold b c (Appends second) → WhereTold a c (Appends (first ++ second))
-both_appended None None None first second was is = tt
-both_appended (Some x) (Some y) (Some z) first second was is =
-    is ∙ ap (λ v. v ++ second) was ∙ append_assoc x first second
-both_appended None None (Some z) first second was is = absurd is
-both_appended None (Some y) c first second was is = absurd was
-both_appended (Some x) None c first second was is = absurd was
-both_appended (Some x) (Some y) None first second was is = absurd is
-
--- a front of a text is a prefix of it
-front_appended : (a b : Option (List ℕ)) (front rest : List ℕ) → WhereTold a b (Appends front) → WhereTold a b (AppendsPrefix (front ++ rest))
-front_appended None None front rest was = tt
-front_appended (Some x) (Some y) front rest was = record {
-  count = length front;
-  within = omega (arith, length-append front rest);
-  appended = was ∙ ap (λ v. x ++ v) (sym (take-append_seam front rest));
-}
-front_appended None (Some y) front rest was = absurd was
-front_appended (Some x) None front rest was = absurd was
-
--- a prefix of a text is a front of it
-prefix_appended : (a b : Option (List ℕ)) (text : List ℕ) → WhereTold a b (AppendsPrefix text) → (front : List ℕ) × (rest : List ℕ) × (text ≡ front ++ rest) × WhereTold a b (Appends front)
-prefix_appended None None text was = ([], text, refl, tt)
-prefix_appended (Some x) (Some y) text was =
-    (take was.count text, drop was.count text, sym (take-append-drop was.count text), was.appended)
-prefix_appended None (Some y) text was = absurd was
-prefix_appended (Some x) None text was = absurd was
 
 -- a piece of what was left is sent
 piece_sent : {text piece left : List ℕ} {a b c : Option (List ℕ)} (rest : List ℕ) → IsSentTo text (piece ++ rest) a b → IsSentTo piece left b c → IsSentTo text (left ++ rest) a c

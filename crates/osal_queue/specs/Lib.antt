@@ -6,5 +6,4 @@ pub use Rattle.osal_object.specs.Waits
 pub use Rattle.osal_object.specs.Deadlines
 pub mod Queue
 pub mod Queues
-pub mod Stored
 pub mod Taking

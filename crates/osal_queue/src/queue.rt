@@ -2,9 +2,8 @@
 ghost use Rattle.std.specs.Prelude.{◌≡◌, ◌<◌, ◌≤◌, ◌==◌, [], length, nat_le, IfOk, IsTrue};
 ghost use Rattle.osal_queue.specs.Queue.{may_be_sized, empty_queue, with_message, with_first};
 
-use circular_buffer::HeapCircularBuffer;
 use osal_base::{OsalId, OutOfMemory, Room};
-use osal_ring::Ring;
+use osal_ring::Messages;
 use std::alloc::Global;
 use std::marker::Model;
 
@@ -19,10 +18,7 @@ const SIZE_LIMIT: u32 = 1024;
 /// Each message is copied once on its way in and once on its way out, at a cost that does not depend on the depth.
 #[derive(Drop)]
 pub struct Queue {
-    bytes: Ring,
-    lengths: HeapCircularBuffer<u16>,
-    depth: u32,
-    size: u32,
+    messages: Messages,
     creator: OsalId,
 }
 
@@ -31,11 +27,14 @@ impl Model for Queue {
 
     ghost Value = { Queue };
 
-    ghost use Rattle.osal_queue.specs.Stored.{queue_of, IsStored};
+    ghost view = { λ a. record {
+      depth = a.messages.depth;
+      size = a.messages.size;
+      creator = a.creator;
+      messages = a.messages.messages;
+    } };
 
-    ghost view = { queue_of };
-
-    ghost invariant = { IsStored };
+    ghost invariant = { λ a. Unit {0} };
 }
 
 impl Queue {
@@ -51,29 +50,22 @@ impl Queue {
         requires { IsTrue (may_be_sized depth size) }
         ensures { IfOk result (λ queue. queue ≡ empty_queue depth size creator) }
     {
-        let bytes = Ring::new(alloc, depth * size)?;
-        let lengths = HeapCircularBuffer::with_capacity(alloc, depth as usize)?;
-        Ok(Queue {
-            bytes,
-            lengths,
-            depth,
-            size,
-            creator,
-        })
+        let messages = Messages::new(alloc, depth, size)?;
+        Ok(Queue { messages, creator })
     }
 
     /// The most messages that it holds.
     pub fn depth(&self) -> u32
         ensures { result ≡ self.now.depth }
     {
-        self.depth
+        self.messages.depth()
     }
 
     /// The most bytes of a message.
     pub fn size(&self) -> u32
         ensures { result ≡ self.now.size }
     {
-        self.size
+        self.messages.size()
     }
 
     /// The task that made it.
@@ -87,14 +79,14 @@ impl Queue {
     pub fn is_empty(&self) -> bool
         ensures { result ≡ (length self.now.messages == 0) }
     {
-        self.lengths.is_empty()
+        self.messages.is_empty()
     }
 
     /// Whether it holds as many messages as it may.
     pub fn is_full(&self) -> bool
         ensures { result ≡ nat_le self.now.depth (length self.now.messages) }
     {
-        self.depth as usize <= self.lengths.len()
+        self.messages.is_full()
     }
 
     /// Puts a message behind the others. It takes no memory.
@@ -103,8 +95,7 @@ impl Queue {
         requires room { length self.old.messages < self.old.depth }
         ensures { self.new ≡ with_message self.old message.now }
     {
-        self.bytes.put(message);
-        self.lengths.push_back(message.len() as u16);
+        self.messages.push(message);
     }
 
     /// Moves the oldest message into a clear room. It takes no memory.
@@ -113,7 +104,6 @@ impl Queue {
         requires clear { room.old ≡ [] }
         ensures { self.old ≡ with_first room.new self.new }
     {
-        let length = usize::from(self.lengths.pop_front().unwrap());
-        self.bytes.take(length, room);
+        self.messages.pop(self.messages.size(), room);
     }
 }

@@ -73,6 +73,14 @@ impl Ring {
         ensures left { self.new ≡ without_first self.old count }
     {
         append_front(room, &self.bytes, count);
+        self.skip(count);
+    }
+
+    /// Lets the oldest bytes go. Its cost is their number at most.
+    pub fn skip(&mut self, count: usize)
+        requires { count ≤ length self.old.bytes }
+        ensures { self.new ≡ without_first self.old count }
+    {
         self.bytes.truncate_front(self.bytes.len() - count);
     }
 }

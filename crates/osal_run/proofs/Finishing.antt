@@ -11,7 +11,7 @@ use Rattle.osal_laws.specs.ConsoleText.{console_text}
 use Rattle.osal_journal.specs.JournalText.{journal_text}
 use Rattle.osal_report.specs.Report.{report_text}
 use Rattle.osal_report.specs.Status.{status_of}
-use Rattle.osal_exec.proofs.Telling.{longer_prefix, told_more, told_prefix}
+use Rattle.osal_outside.proofs.Appended.{longer_prefix, both_appended, then_prefix}
 use Rattle.osal_run.specs.declared.exit.Exit.{Exit}
 use Rattle.osal_run.specs.declared.exit.Exit.TheVariants as exit
 use Rattle.osal_run.specs.Request.{request_of, asks_journal}
@@ -47,7 +47,7 @@ cut_short a b words app entries part told =
 pub half_written : (a b c : Written) (words : List (List ℕ)) (journal : Bool) (app : Application) (entries : Entries) (report : List ℕ) (shown : Option Entries) → asks_journal (request_of words) ≡ journal → report ≡ report_text app entries.entries → shown ≡ cond journal (Some entries) None → IsPartRun app entries.entries → WhereTold a b (Appends (console_text entries.entries)) → WhereTold b c (AppendsPrefix (rest_text report shown)) → IsCutShort (asks_journal (request_of words)) (Accepted app) entries.entries a c
 half_written a b c words journal app entries report shown asks reports shows part front rest =
     let same = rest_is journal app entries report shown reports shows in
-    (part, rw (asks, ← same) (told_prefix a b c (console_text entries.entries) (rest_text report shown) front rest))
+    (part, rw (asks, ← same) (then_prefix a b c (console_text entries.entries) (rest_text report shown) front rest))
 
 -- a run whose output is written whole, by its exit
 done_by : (result : Exit) (words : List (List ℕ)) (app : Application) (entries : List Entry) (a b : Written) → IsFinished result → IsWholeRun (asks_journal (request_of words)) app (exit_number result) entries a b → Leaves result words (Accepted app) entries a b
@@ -66,5 +66,5 @@ whole_written a b c words journal app entries report shown result asks reports s
     done_by result words app entries.entries a c finished (record {
       run = run;
       own = sym number;
-      written = rw (asks, ← same) (told_more a b c (console_text entries.entries) (rest_text report shown) front rest);
+      written = rw (asks, ← same) (both_appended a b c (console_text entries.entries) (rest_text report shown) front rest);
     })

@@ -1,7 +1,8 @@
 -- A run that did nothing.
-use Rattle.std.proofs.Common.{◌≡◌, List, [], ℕ, Option, Some, None, refl, sym, subst, append-nil, arith}
+use Rattle.std.proofs.Common.{◌≡◌, List, [], ℕ, Option, refl, sym, subst}
 use Rattle.osal_outside.specs.Causes.{WhereTold}
 use Rattle.osal_outside.specs.Sink.{AppendsPrefix}
+use Rattle.osal_outside.proofs.Appended.{none_appended, whole_prefix, longer_prefix}
 use Rattle.osal_call.specs.declared.call.Entry.{Entry}
 use Rattle.osal_script.specs.App.{Application}
 use Rattle.osal_runs.specs.Runs.{IsPartRun}
@@ -11,8 +12,7 @@ use Rattle.osal_run.specs.Outcome.{Leaves}
 
 -- no bytes are a prefix
 pub no_bytes : (text : List ℕ) (written : Option (List ℕ)) → WhereTold written written (AppendsPrefix text)
-no_bytes text None = tt
-no_bytes text (Some before) = record { count = 0; within = omega arith; appended = sym (append-nil before) }
+no_bytes text written = longer_prefix written written [] text (whole_prefix written written [] (none_appended written))
 
 -- no entries are a front of any run
 no_entries : (app : Application) → IsPartRun app []

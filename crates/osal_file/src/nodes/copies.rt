@@ -8,10 +8,9 @@ ghost use Rattle.osal_file.specs.Nodes.{unless_open, is_one_volume, copied, cp};
 
 use super::done;
 use crate::Files;
-use crate::paths::in_slot;
-use crate::slots::slot_among;
 use osal_base::{Ack, Bytes, Name, OsalId, Status};
 use osal_path::Trail;
+use osal_slots::{in_slot, slot_among};
 use osal_volume::Volume;
 
 impl Files {

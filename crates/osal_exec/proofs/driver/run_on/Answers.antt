@@ -4,7 +4,8 @@ use Rattle.osal_runs.specs.Runs.{IsRun}
 use Rattle.osal_runs.proofs.CostLaw.{cost_bounds_entries}
 use Rattle.osal_exec.specs.Driving.{drive_of, HasTurned}
 use Rattle.osal_exec.proofs.Taking.{nearer}
-use Rattle.osal_exec.proofs.Telling.{whole_prefix, drained_told, drained_prefix}
+use Rattle.osal_outside.proofs.Appended.{whole_prefix}
+use Rattle.osal_exec.proofs.Telling.{drained_told, drained_prefix}
 use Rattle.osal_exec.proofs.driver.run_on.Goals as goal
 
 pub loop-smaller : goal.loop-smaller

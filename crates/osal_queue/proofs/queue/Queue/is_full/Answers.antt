@@ -1,6 +1,0 @@
-use Rattle.std.proofs.Common.{refl}
-use Rattle.osal_queue.proofs.Cut.{length-cut}
-use Rattle.osal_queue.proofs.queue.Queue.is_full.Goals as goal
-
-pub returns : goal.returns
-returns c = rw (← c.self.view_is, length-cut, c.len.ensures.len) refl

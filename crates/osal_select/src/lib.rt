@@ -1,0 +1,8 @@
+//! Sets of streams, and what a select answers of those that are ready.
+#![tactic(auto)]
+
+mod ready;
+mod set;
+
+pub use ready::Ready;
+pub use set::FdSet;

@@ -1,0 +1,2 @@
+pub use Rattle.osal_base.specs.Identifier
+pub mod Slots

@@ -1,0 +1,3 @@
+mod Stored
+mod Places
+pub mod Steps

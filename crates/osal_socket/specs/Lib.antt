@@ -1,0 +1,15 @@
+pub use Rattle.osal_base.specs.Identifier
+pub use Rattle.osal_base.specs.Reply
+pub use Rattle.osal_select.specs.Selects
+pub use Rattle.osal_slots.specs.Slots
+pub mod Datagram
+pub mod Waiting
+pub mod Connection
+pub mod Net
+pub mod Binding
+pub mod Connecting
+pub mod Datagrams
+pub mod Bytes
+pub mod Found
+pub mod Closing
+pub mod Readiness
