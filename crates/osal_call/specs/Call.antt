@@ -47,5 +47,6 @@ said (call.Stat path) = call.Stat (trimmed path)
 said (call.Mkdir path) = call.Mkdir (trimmed path)
 said (call.Rmdir path) = call.Rmdir (trimmed path)
 said (call.DirOpen path) = call.DirOpen (trimmed path)
+said (call.SocketSend id payload port) = call.SocketSend id (trimmed payload) port
 said (call.ConsoleWrite payload) = call.ConsoleWrite (trimmed payload)
 said other = other

@@ -183,7 +183,7 @@ signature (call.Unmount path) = plain 7
 signature (call.Rmfs device) = plain 7
 signature (call.StatVolume path) = plain 7
 signature (call.Open path flags access) = plain 7
-signature (call.Read id n wait) = record (on Streams id) { refused_before = (n == 0) || nat_lt 1024 n }
+signature (call.Read id n wait) = record (on Streams id) { refused_before = (n == 0) || nat_lt 1024 n; wait = wait }
 signature (call.Write id payload) =
     record (on Streams id) { refused_before = (length payload.bytes == 0) || nat_lt 4096 (length payload.bytes) }
 signature (call.Lseek id offset whence) = on Streams id
@@ -198,6 +198,19 @@ signature (call.DirOpen path) = record (plain 7) { takes_memory = true }
 signature (call.DirRead id) = on Directories id
 signature (call.DirRewind id) = on Directories id
 signature (call.DirClose id) = on Directories id
+signature (call.SocketOpen kind) = record (plain 7) { takes_memory = true }
+signature (call.SocketBind id port) = record (on Streams id) { refused_before = (port == 0) || nat_lt 65535 port }
+signature (call.SocketListen id) = on Streams id
+signature (call.SocketConnect id port) = record (on Streams id) { refused_before = (port == 0) || nat_lt 65535 port; takes_memory = true }
+signature (call.SocketAccept id wait) = record (on Streams id) { wait = wait }
+signature (call.SocketSend id payload port) =
+    record (on Streams id) {
+      refused_before = (length payload.bytes == 0) || nat_lt 1024 (length payload.bytes) || (port == 0) || nat_lt 65535 port;
+    }
+signature (call.SocketRecv id n wait) = record (on Streams id) { refused_before = (n == 0) || nat_lt 1024 n; wait = wait }
+signature (call.SocketShutdown id how) = on Streams id
+signature (call.SelectOne id mode wait) = record (on Streams id) { wait = wait }
+signature (call.SelectMulti reads writes wait) = record (plain 7) { wait = wait }
 signature (call.ConsoleWrite payload) = plain 8
 signature call.ConsoleEnable = plain 8
 signature call.ConsoleDisable = plain 8
@@ -208,12 +221,12 @@ signature (call.WaitEnd part) = record (plain (part_of_wait part)) { role = Ends
 signature (call.WaitAbandon part) = record (plain (part_of_wait part)) { role = Abandons }
 
 -- the number of the part whose call it is: 0 for tasks, 1 for queues, 2 and 3 for counting and binary semaphores, 4 for
--- mutexes, 5 for condition variables, 6 for time, 7 for files, 8 for the console
+-- mutexes, 5 for condition variables, 6 for time, 7 for files and sockets, 8 for the console
 abbrev pub part_of : Call → ℕ
 part_of made = (signature made).part
 
--- whether a call may take memory: a queue and a volume take their storage when they are made, a directory its names when
--- it is opened
+-- whether a call may take memory: a queue, a volume and a socket take their storage when they are made, a directory its
+-- names when it is opened, a connection its bytes when it is made
 abbrev pub takes_memory : Call → Bool
 takes_memory made = (signature made).takes_memory
 
@@ -284,6 +297,7 @@ object_call object.Close id = call.Close id
 object_call object.DirRead id = call.DirRead id
 object_call object.DirRewind id = call.DirRewind id
 object_call object.DirClose id = call.DirClose id
+object_call object.SocketListen id = call.SocketListen id
 object_call object.Hold id = call.Hold id
 object_call object.Release id = call.Release id
 
@@ -317,6 +331,8 @@ value_call value_word.BinSemCreate text initial = call.BinSemCreate text initial
 abbrev pub number_call : NumberWord → ℕ → ℕ → Call
 number_call number_word.TaskSetPriority id amount = call.TaskSetPriority id amount
 number_call number_word.TimebaseTick id amount = call.TimebaseTick id amount
+number_call number_word.SocketBind id amount = call.SocketBind id amount
+number_call number_word.SocketConnect id amount = call.SocketConnect id amount
 
 -- the call with a path or a device
 abbrev pub path_call : PathWord → Text → Call
@@ -369,6 +385,7 @@ object_text object.Close = codes "close"
 object_text object.DirRead = codes "dir_read"
 object_text object.DirRewind = codes "dir_rewind"
 object_text object.DirClose = codes "dir_close"
+object_text object.SocketListen = codes "socket_listen"
 object_text object.Hold = codes "hold"
 object_text object.Release = codes "release"
 
@@ -402,6 +419,8 @@ value_text value_word.BinSemCreate = codes "bin_sem_create"
 abbrev pub number_text : NumberWord → List ℕ
 number_text number_word.TaskSetPriority = codes "task_set_priority"
 number_text number_word.TimebaseTick = codes "timebase_tick"
+number_text number_word.SocketBind = codes "socket_bind"
+number_text number_word.SocketConnect = codes "socket_connect"
 
 -- the words of the calls with a path or a device
 abbrev pub path_text : PathWord → List ℕ
@@ -447,6 +466,13 @@ word_text word.Open = codes "open"
 word_text word.Read = codes "read"
 word_text word.Write = codes "write"
 word_text word.Lseek = codes "lseek"
+word_text word.SocketOpen = codes "socket_open"
+word_text word.SocketAccept = codes "socket_accept"
+word_text word.SocketSend = codes "socket_send"
+word_text word.SocketRecv = codes "socket_recv"
+word_text word.SocketShutdown = codes "socket_shutdown"
+word_text word.SelectOne = codes "select_one"
+word_text word.SelectMulti = codes "select_multi"
 word_text word.ConsoleWrite = codes "console_write"
 
 -- the calls that a line may make
@@ -461,20 +487,23 @@ call_words =
     ∷ word.Object object.CondvarBroadcast ∷ word.Object object.CondvarDelete
     ∷ word.Object object.TimebaseFreeRun ∷ word.Object object.TimebaseDelete ∷ word.Object object.TimerDelete
     ∷ word.Object object.TimerInfo ∷ word.Object object.Close ∷ word.Object object.DirRead
-    ∷ word.Object object.DirRewind ∷ word.Object object.DirClose ∷ word.Object object.Hold ∷ word.Object object.Release
+    ∷ word.Object object.DirRewind ∷ word.Object object.DirClose ∷ word.Object object.SocketListen ∷ word.Object object.Hold
+    ∷ word.Object object.Release
     ∷ word.Name name_word.TaskFind ∷ word.Name name_word.QueueFind ∷ word.Name name_word.CountSemFind
     ∷ word.Name name_word.BinSemFind ∷ word.Name name_word.MutSemCreate ∷ word.Name name_word.MutSemFind
     ∷ word.Name name_word.CondvarCreate ∷ word.Name name_word.CondvarFind ∷ word.Name name_word.TimebaseCreate
     ∷ word.Name name_word.TimebaseFind ∷ word.Name name_word.TimerFind ∷ word.Name name_word.DirOpen ∷ word.Wait wait_word.CountSemTake
     ∷ word.Wait wait_word.BinSemTake ∷ word.Wait wait_word.CondvarWait ∷ word.Value value_word.CountSemCreate
     ∷ word.Value value_word.BinSemCreate ∷ word.Number number_word.TaskSetPriority ∷ word.Number number_word.TimebaseTick
+    ∷ word.Number number_word.SocketBind ∷ word.Number number_word.SocketConnect
     ∷ word.Path path_word.Unmount ∷ word.Path path_word.Rmfs ∷ word.Path path_word.StatVolume
     ∷ word.Path path_word.Remove ∷ word.Path path_word.Stat ∷ word.Path path_word.Mkdir ∷ word.Path path_word.Rmdir
     ∷ word.Paths paths_word.Mount ∷ word.Paths paths_word.Rename ∷ word.Paths paths_word.Cp
     ∷ word.Bare bare_word.ConsoleEnable ∷ word.Bare bare_word.ConsoleDisable
     ∷ word.TaskCreate ∷ word.TaskExit ∷ word.TaskDelay ∷ word.QueueCreate ∷ word.QueuePut ∷ word.QueueGet
     ∷ word.TimerAdd ∷ word.TimerSet ∷ word.Mkfs ∷ word.Open ∷ word.Read ∷ word.Write ∷ word.Lseek
-    ∷ word.ConsoleWrite ∷ []
+    ∷ word.SocketOpen ∷ word.SocketAccept ∷ word.SocketSend ∷ word.SocketRecv ∷ word.SocketShutdown ∷ word.SelectOne
+    ∷ word.SelectMulti ∷ word.ConsoleWrite ∷ []
 
 -- the call that a word names
 abbrev pub call_word : List ℕ → Option CallWord

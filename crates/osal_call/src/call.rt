@@ -2,7 +2,10 @@
 ghost use Rattle.std.specs.Prelude.{◌≡◌, ◌≤◌};
 ghost use Rattle.osal_call.specs.Call as of_call;
 
-use osal_base::{Access, Bytes, Moment, OpenFlags, OsalId, Reply, Timeout, Whence};
+use osal_base::{
+    Access, Bytes, How, Mode, Moment, OpenFlags, OsalId, Reply, SockKind, Timeout, Whence,
+};
+use osal_select::BoxedSet;
 
 /// A call with its arguments.
 #[derive(Drop)]
@@ -322,6 +325,58 @@ pub enum Call {
     DirClose {
         id: OsalId,
     },
+    /// `OS_SocketOpen`.
+    SocketOpen {
+        kind: SockKind,
+    },
+    /// `OS_SocketBind`, to a port of the process.
+    SocketBind {
+        id: OsalId,
+        port: u32,
+    },
+    /// `OS_SocketListen`.
+    SocketListen {
+        id: OsalId,
+    },
+    /// `OS_SocketConnect`, to the socket that listens at a port.
+    SocketConnect {
+        id: OsalId,
+        port: u32,
+    },
+    /// `OS_SocketAccept`.
+    SocketAccept {
+        id: OsalId,
+        wait: Timeout,
+    },
+    /// `OS_SocketSendTo`, to the socket that has a port.
+    SocketSend {
+        id: OsalId,
+        payload: Bytes,
+        port: u32,
+    },
+    /// `OS_SocketRecvFrom`, of `n` bytes at most.
+    SocketRecv {
+        id: OsalId,
+        n: u32,
+        wait: Timeout,
+    },
+    /// `OS_SocketShutdown`.
+    SocketShutdown {
+        id: OsalId,
+        how: How,
+    },
+    /// `OS_SelectSingle`.
+    SelectOne {
+        id: OsalId,
+        mode: Mode,
+        wait: Timeout,
+    },
+    /// `OS_SelectMultiple`.
+    SelectMulti {
+        reads: BoxedSet,
+        writes: BoxedSet,
+        wait: Timeout,
+    },
     /// `OS_printf` and `OS_ConsoleWrite`, with the bytes as they stand.
     ConsoleWrite {
         payload: Bytes,
@@ -390,7 +445,7 @@ pub fn part_of_id(id: OsalId) -> u32
 }
 
 /// The number of the part whose call it is: 0 for tasks, 1 for queues, 2 and 3 for counting and binary semaphores,
-/// 4 for mutexes, 5 for condition variables, 6 for time, 7 for files, 8 for the console.
+/// 4 for mutexes, 5 for condition variables, 6 for time, 7 for files and sockets, 8 for the console.
 ///
 /// A hold and a release go to the part of the identifier's type, the end of a wait to the part of its number.
 /// What has no part goes to part 0.
@@ -470,7 +525,17 @@ pub fn part_of(call: &Call) -> u32
         | Call::DirOpen { .. }
         | Call::DirRead { .. }
         | Call::DirRewind { .. }
-        | Call::DirClose { .. } => 7,
+        | Call::DirClose { .. }
+        | Call::SocketOpen { .. }
+        | Call::SocketBind { .. }
+        | Call::SocketListen { .. }
+        | Call::SocketConnect { .. }
+        | Call::SocketAccept { .. }
+        | Call::SocketSend { .. }
+        | Call::SocketRecv { .. }
+        | Call::SocketShutdown { .. }
+        | Call::SelectOne { .. }
+        | Call::SelectMulti { .. } => 7,
         Call::ConsoleWrite { .. }
         | Call::ConsoleEnable
         | Call::ConsoleDisable

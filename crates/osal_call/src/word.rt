@@ -40,6 +40,7 @@ pub enum ObjectWord {
     DirRead,
     DirRewind,
     DirClose,
+    SocketListen,
     Hold,
     Release,
 }
@@ -81,6 +82,8 @@ pub enum ValueWord {
 pub enum NumberWord {
     TaskSetPriority,
     TimebaseTick,
+    SocketBind,
+    SocketConnect,
 }
 
 /// The calls with a path or a device alone.
@@ -134,6 +137,13 @@ pub enum CallWord {
     Read,
     Write,
     Lseek,
+    SocketOpen,
+    SocketAccept,
+    SocketSend,
+    SocketRecv,
+    SocketShutdown,
+    SelectOne,
+    SelectMulti,
     ConsoleWrite,
 }
 
@@ -172,6 +182,7 @@ impl ObjectWord {
             ObjectWord::DirRead => Call::DirRead { id },
             ObjectWord::DirRewind => Call::DirRewind { id },
             ObjectWord::DirClose => Call::DirClose { id },
+            ObjectWord::SocketListen => Call::SocketListen { id },
             ObjectWord::Hold => Call::Hold { id },
             ObjectWord::Release => Call::Release { id },
         }
@@ -209,6 +220,7 @@ impl ObjectWord {
             ObjectWord::DirRead => b"dir_read",
             ObjectWord::DirRewind => b"dir_rewind",
             ObjectWord::DirClose => b"dir_close",
+            ObjectWord::SocketListen => b"socket_listen",
             ObjectWord::Hold => b"hold",
             ObjectWord::Release => b"release",
         }
@@ -339,6 +351,8 @@ impl NumberWord {
                 priority: number,
             },
             NumberWord::TimebaseTick => Call::TimebaseTick { id, usecs: number },
+            NumberWord::SocketBind => Call::SocketBind { id, port: number },
+            NumberWord::SocketConnect => Call::SocketConnect { id, port: number },
         }
     }
 
@@ -348,6 +362,8 @@ impl NumberWord {
         match self {
             NumberWord::TaskSetPriority => b"task_set_priority",
             NumberWord::TimebaseTick => b"timebase_tick",
+            NumberWord::SocketBind => b"socket_bind",
+            NumberWord::SocketConnect => b"socket_connect",
         }
     }
 }
@@ -458,13 +474,20 @@ impl CallWord {
             CallWord::Read => b"read",
             CallWord::Write => b"write",
             CallWord::Lseek => b"lseek",
+            CallWord::SocketOpen => b"socket_open",
+            CallWord::SocketAccept => b"socket_accept",
+            CallWord::SocketSend => b"socket_send",
+            CallWord::SocketRecv => b"socket_recv",
+            CallWord::SocketShutdown => b"socket_shutdown",
+            CallWord::SelectOne => b"select_one",
+            CallWord::SelectMulti => b"select_multi",
             CallWord::ConsoleWrite => b"console_write",
         }
     }
 }
 
 /// Every call that a line may make.
-const WORDS: [CallWord; 75] = [
+const WORDS: [CallWord; 85] = [
     CallWord::Object(ObjectWord::TaskDelete),
     CallWord::Object(ObjectWord::TaskInfo),
     CallWord::Object(ObjectWord::QueueDelete),
@@ -493,6 +516,7 @@ const WORDS: [CallWord; 75] = [
     CallWord::Object(ObjectWord::DirRead),
     CallWord::Object(ObjectWord::DirRewind),
     CallWord::Object(ObjectWord::DirClose),
+    CallWord::Object(ObjectWord::SocketListen),
     CallWord::Object(ObjectWord::Hold),
     CallWord::Object(ObjectWord::Release),
     CallWord::Name(NameWord::TaskFind),
@@ -514,6 +538,8 @@ const WORDS: [CallWord; 75] = [
     CallWord::Value(ValueWord::BinSemCreate),
     CallWord::Number(NumberWord::TaskSetPriority),
     CallWord::Number(NumberWord::TimebaseTick),
+    CallWord::Number(NumberWord::SocketBind),
+    CallWord::Number(NumberWord::SocketConnect),
     CallWord::Path(PathWord::Unmount),
     CallWord::Path(PathWord::Rmfs),
     CallWord::Path(PathWord::StatVolume),
@@ -539,6 +565,13 @@ const WORDS: [CallWord; 75] = [
     CallWord::Read,
     CallWord::Write,
     CallWord::Lseek,
+    CallWord::SocketOpen,
+    CallWord::SocketAccept,
+    CallWord::SocketSend,
+    CallWord::SocketRecv,
+    CallWord::SocketShutdown,
+    CallWord::SelectOne,
+    CallWord::SelectMulti,
     CallWord::ConsoleWrite,
 ];
 

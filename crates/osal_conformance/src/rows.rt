@@ -131,10 +131,10 @@ end
         "osal-run: line 3: argument\n",
     ),
     (
-        "a call that is not built",
-        "osal-app 1\ntask main\nsocket_open $s stream\nend\n",
+        "a word of no call",
+        "osal-app 1\ntask main\nsocket_shut $s\nend\n",
         2,
-        "osal-run: line 3: unbuilt\n",
+        "osal-run: line 3: word\n",
     ),
     (
         "a body that is left open",

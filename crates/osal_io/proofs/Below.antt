@@ -28,6 +28,13 @@ below_fails answer.Waits under = refl
 below_fails answer.Go under = refl
 below_fails answer.Deleted under = refl
 
+-- what has to wait is no success
+pub waits_fails : (given : Answer) → is_waits given ≡ true → is_success given ≡ false
+waits_fails (answer.Code code) waits = absurd (both_ways false refl waits)
+waits_fails answer.Waits waits = refl
+waits_fails answer.Go waits = refl
+waits_fails answer.Deleted waits = refl
+
 -- a code below 0 is a refusal
 pub below_refused : (given : Answer) → below given ≡ true → is_refusal given ≡ true
 below_refused (answer.Code (pos n)) under = absurd (both_ways _ (count_not_below n) under)

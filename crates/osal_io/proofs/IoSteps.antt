@@ -1,27 +1,27 @@
--- What is known of a step of the io part: which of its tables it may turn, and what holds of the calls on streams.
-use Rattle.std.proofs.Common.{◌≡◌, ◌==◌, ◌||◌, ℕ, ℤ, Bool, true, false, List, length, nat_lt, Option, Some, None, Result, Ok, Err, refl, ap, ◌∙◌}
-use Rattle.std.proofs.lemmas.Bool.{cond-false}
-use Rattle.osal_base.specs.declared.arguments.Access.{Access}
-use Rattle.osal_base.specs.declared.arguments.OpenFlags.{OpenFlags}
-use Rattle.osal_base.specs.declared.arguments.Whence.{Whence}
+-- What is known of a step of the io part that does not wait: which of its tables it may turn.
+use Rattle.std.proofs.Common.{◌≡◌, ℕ, Bool, true, false, List, [], None, Result, Ok, Err, refl}
+use Rattle.std.proofs.lemmas.Bool.{false_from_ne_true, both_ways}
 use Rattle.osal_base.specs.declared.status.Status.{Status}
-use Rattle.osal_base.specs.declared.status.Status.TheVariants as status
-use Rattle.osal_base.specs.Reply.{Replied, refusal, is_waits, is_success}
+use Rattle.osal_base.specs.declared.time.Timeout.{Timeout}
+use Rattle.osal_base.specs.declared.time.Timeout.TheVariants as timeout
+use Rattle.osal_base.specs.Reply.{Replied, refusal, is_waits}
 use Rattle.osal_idtable.specs.declared.table.IdFault.{IdFault}
-use Rattle.osal_idtable.specs.Table.{Active}
-use Rattle.osal_idtable.specs.Steps.{peeked, reserve_step, take_out, unheld}
+use Rattle.osal_idtable.specs.Steps.{take_out, unheld}
 use Rattle.osal_idtable.specs.Faults.{answered}
+use Rattle.osal_object.specs.Moves.{Create}
+use Rattle.osal_object.specs.Objects.{ObjectsState}
 use Rattle.osal_object.proofs.Moves.{either}
 use Rattle.osal_object.proofs.Refusals.{Leaves, same, fails, within}
 use Rattle.osal_file.specs.Files.{FilesState}
+use Rattle.osal_io.specs.declared.awaited.Awaited.{Awaited}
 use Rattle.osal_io.specs.declared.part.Stream.{Stream}
 use Rattle.osal_io.specs.declared.part.Stream.TheVariants as stream
-use Rattle.osal_io.specs.Io.{IoState, Stepped, in_files, stream_at, free_id, streams_after, opened, open_file, of_stream, on_stream, read, write, lseek, closed_where, close, is_of_stream, hold, release}
-use Rattle.osal_io.proofs.Below.{below, below_fails, hold_answers, release_answers, hold_leaves, release_leaves}
-use Rattle.osal_io.proofs.Makes.{Makes, makes_none, makes_new, makes_less, makes_held, makes_released}
+use Rattle.osal_io.specs.Io.{IoState, Stepped, in_files, stream_at, closed, closed_where, close, is_of_stream, hold, release}
+use Rattle.osal_io.proofs.Below.{below, hold_answers, release_answers, hold_leaves, release_leaves}
+use Rattle.osal_io.proofs.Makes.{Makes, makes_none, makes_less, makes_held, makes_released}
 use Rattle.osal_io.proofs.FileSteps.{IsBeside, IsKnown, Turns, beside_known}
-use Rattle.osal_io.proofs.StreamSteps.{open_beside, reads_beside, writes_beside, seeks_beside}
 use Rattle.osal_io.proofs.Held as held
+use Rattle.osal_io.proofs.Tried.{Grown, Same, New, IsTried}
 
 -- at most one of the three tables turns, and by a move that suits the call
 pub data IoTurns (holding : Bool) (old new : IoState) : Type 0 where
@@ -33,6 +33,11 @@ pub record IsIoStep (holding : Bool) (io : IoState) (stepped : Stepped) : Type 0
   pub turns : IoTurns holding io stepped.1
   pub keeps : Leaves below io stepped
   pub answers : is_waits stepped.0.answer ≡ false
+
+-- streams that are the same or have a new one make a move
+grown_makes : {holding : Bool} {old new : ObjectsState Stream Awaited} → Grown old new → Makes holding old new
+grown_makes (Same alike) = makes_none alike
+grown_makes (New made is) = record { move = Create None made []; suits = tt; is = is }
 
 module _ {holding : Bool} {io : IoState} where
   -- a step of the files
@@ -55,63 +60,31 @@ module _ {holding : Bool} {io : IoState} where
     answers = refl;
   }
 
+  -- a step that might have had to wait and has not
+  pub over_step : {wait : Timeout} {on : List ℕ} {stepped : Stepped} → IsTried io wait on stepped → is_waits stepped.0.answer ≡ false → IsIoStep holding io stepped
+  over_step tried over = record {
+    turns = OfStreams (grown_makes tried.streams) tried.systems tried.directories;
+    keeps = tried.keeps;
+    answers = over;
+  }
+
+  -- one that may not wait
+  pub now_step : {on : List ℕ} {stepped : Stepped} → IsTried io timeout.Check on stepped → IsIoStep holding io stepped
+  now_step {on} {stepped} tried =
+      over_step tried (false_from_ne_true (is_waits stepped.0.answer) (λ waits. both_ways true (tried.waits waits).0 refl))
+
 module _ (io : IoState) where
-  -- a step of a call other than a hold and a release
-  abbrev Step : Stepped → Type 0
-  Step stepped = IsIoStep false io stepped
+  closed_turns : (id : ℕ) (was : Stream) → IoTurns false io (closed io id was)
+  closed_turns id stream.File = OfStreams (makes_less io.streams id) refl refl
+  closed_turns id stream.Socket = OfStreams (makes_less io.streams id) refl refl
 
-  after_makes : (reply : Replied) → Makes false io.streams (streams_after io reply)
-  after_makes reply =
-      either (Makes false io.streams) (is_success reply.answer) _ _ (makes_new io.streams None stream.File) (makes_none refl)
-
-  -- the streams are another where the file was opened alone, and so not where the answer is below 0
-  opened_leaves : (stepped : Replied × FilesState) → Leaves below io.files stepped → Leaves below io (opened io stepped)
-  opened_leaves stepped leaves = record {
-    left = λ under.
-        ap (λ streams. record { streams = streams; files = stepped.1 }) (cond-false (is_success stepped.0.answer) _ _ (below_fails stepped.0.answer under))
-        ∙ ap (λ files. record io { files = files }) (leaves.left under);
-  }
-
-  opened_step : (stepped : Replied × FilesState) → IsBeside io.files stepped → Step (opened io stepped)
-  opened_step stepped beside = record {
-    turns = OfStreams (after_makes stepped.0) beside.systems beside.directories;
-    keeps = opened_leaves stepped beside.keeps;
-    answers = beside.answers;
-  }
-
-  -- opening a file
-  pub open_step : (path : List ℕ) (flags : OpenFlags) (access : Access) → Step (open_file io path flags access)
-  open_step path flags access =
-      opened_step _ (open_beside io.files path flags access (free_id (peeked (reserve_step io.streams.table None).0)))
-
-  found_step : (stepped : Replied × FilesState) → IsBeside io.files stepped → (found : Option (Active Stream)) → Step (of_stream io stepped found)
-  found_step stepped beside None = refused_step status.ErrInvalidId
-  found_step stepped beside (Some active) = beside_step beside
-
-  stream_step : (id : ℕ) (stepped : Replied × FilesState) → IsBeside io.files stepped → Step (on_stream io id stepped)
-  stream_step id stepped beside = found_step stepped beside (stream_at io id)
-
-  -- reading
-  pub read_step : (id n : ℕ) → Step (read io id n)
-  read_step id n =
-      either Step ((n == 0) || nat_lt 1024 n) _ _ (refused_step status.ErrInvalidSize) (stream_step id _ (reads_beside io.files id n))
-
-  -- writing
-  pub write_step : (id : ℕ) (payload : List ℕ) → Step (write io id payload)
-  write_step id payload =
-      either Step ((length payload == 0) || nat_lt 4096 (length payload)) _ _ (refused_step status.ErrInvalidSize) (stream_step id _ (writes_beside io.files id payload))
-
-  -- seeking
-  pub lseek_step : (id : ℕ) (offset : ℤ) (whence : Whence) → Step (lseek io id offset whence)
-  lseek_step id offset whence = stream_step id _ (seeks_beside io.files id offset whence)
-
-  taken_step : (id : ℕ) (r : Result Stream IdFault) → Step (answered (take_out io.streams.table id r).0, closed_where io id (take_out io.streams.table id r).0)
+  taken_step : (id : ℕ) (r : Result Stream IdFault) → IsIoStep false io (answered (take_out io.streams.table id r).0, closed_where io id (take_out io.streams.table id r).0)
   taken_step id (Err fault) = refused_step _
   taken_step id (Ok one) =
-      record { turns = OfStreams (makes_less io.streams id) refl refl; keeps = fails refl; answers = refl }
+      record { turns = closed_turns id one; keeps = fails refl; answers = refl }
 
   -- closing
-  pub close_step : (id : ℕ) → Step (close io id)
+  pub close_step : (id : ℕ) → IsIoStep false io (close io id)
   close_step id = taken_step id (unheld (stream_at io id))
 
   -- a hold

@@ -1,4 +1,5 @@
 mod Opened
+mod Waited
 pub mod Below
 pub mod Makes
 pub mod FileSteps
@@ -7,6 +8,12 @@ pub mod StreamSteps
 pub mod Nodes
 pub mod Directories
 pub mod Held
+pub mod Tried
+pub mod StreamCalls
+pub mod SelectSteps
 pub mod IoSteps
+pub mod Awaits
+pub mod AnyTurns
+pub mod StreamWaits
 pub mod Stale
 pub mod Known

@@ -9,8 +9,8 @@ use Rattle.osal_idtable.specs.Steps.{reserve_step, finalize_step, take_out, unhe
 use Rattle.osal_idtable.proofs.WellFormed.{gone_here, gone_there}
 use Rattle.osal_object.specs.Objects.{ObjectsState, with_table, with_value, created, create_step, delete_step, hold_call_step, release_call_step}
 use Rattle.osal_object.specs.Waits.{waits_on}
-use Rattle.osal_object.specs.Moves.{Change, Put, Hold, Release, Begin, End, Mark, Move, Create, Remove, Changes, changed, after_changes, moved, AreAllowed, MayMove}
-use Rattle.osal_object.proofs.Activity.{Alike, change_alike, changes_alike, reserve_active, settle_elsewhere}
+use Rattle.osal_object.specs.Moves.{Change, Put, Hold, Release, Begin, End, Mark, Move, Create, Remove, Changes, changed, after_changes, moved, AreAllowed, HoldNone, MayMove}
+use Rattle.osal_object.proofs.Activity.{Grows, change_alike, changes_alike, create_grows, reserve_active, settle_elsewhere}
 use Rattle.osal_object.proofs.Balance.{AreBalanced, balanced_put}
 use Rattle.osal_object.proofs.Counted.{issued_inactive}
 use Rattle.osal_object.proofs.HeldEach.{there, one_there}
@@ -47,9 +47,9 @@ module _ {T W : Type 0} where
   SuitChanges holding [] = Unit {0}
   SuitChanges holding (change ∷ changes) = SuitsChange holding change × SuitChanges holding changes
 
-  -- a create and a removal always suit, changes where each does
+  -- a removal always suits, changes where each does, and a create where they only put other objects
   abbrev pub SuitsMove : Bool → Move T W → Type 0
-  SuitsMove holding (Create name object) = Unit {0}
+  SuitsMove holding (Create name object changes) = SuitChanges false changes
   SuitsMove holding (Remove id) = Unit {0}
   SuitsMove holding (Changes changes) = SuitChanges holding changes
 
@@ -65,7 +65,7 @@ module _ {T W : Type 0} where
 
   -- a create
   pub makes_new : {holding : Bool} (objects : ObjectsState T W) (name : Option (List ℕ)) (object : T) → Makes holding objects (create_step objects name object).1
-  makes_new objects name object = record { move = Create name object; suits = tt; is = refl }
+  makes_new objects name object = record { move = Create name object []; suits = tt; is = refl }
 
   -- a removal
   pub makes_less : {holding : Bool} (objects : ObjectsState T W) (id : ℕ) → Makes holding objects (delete_step objects id).1
@@ -96,8 +96,19 @@ module _ {T W : Type 0} where
   changes_allowed holding objects (End task ∷ changes) suit = absurd suit.0
   changes_allowed holding objects (Mark test ∷ changes) suit = absurd suit.0
 
+  -- without a call that holds, they hold nothing
+  none_held : (changes : List (Change T W)) → SuitChanges false changes → HoldNone changes
+  none_held [] suit = tt
+  none_held (Put id object ∷ changes) suit = (tt, none_held changes suit.1)
+  none_held (Hold id ∷ changes) suit = absurd (both_ways false refl suit.0)
+  none_held (Release id ∷ changes) suit = (tt, none_held changes suit.1)
+  none_held (Begin wait ∷ changes) suit = absurd suit.0
+  none_held (End task ∷ changes) suit = absurd suit.0
+  none_held (Mark test ∷ changes) suit = absurd suit.0
+
   move_allowed : (holding : Bool) (objects : ObjectsState T W) (move : Move T W) → SuitsMove holding move → MayMove objects move
-  move_allowed holding objects (Create name object) suits = tt
+  move_allowed holding objects (Create name object changes) suits =
+      (changes_allowed false (create_step objects name object).1 changes suits, none_held changes suits)
   move_allowed holding objects (Remove id) suits = tt
   move_allowed holding objects (Changes changes) suits = changes_allowed holding objects changes suits
 
@@ -116,9 +127,15 @@ module _ {T W : Type 0} where
   )
 
   moved_one : (objects : ObjectsState T W) (move : Move T W) → AllButOne (is_there objects) (is_there (moved objects move))
-  moved_one objects (Create name object) = created_one objects name object (reserve_step objects.table name).0
+  moved_one objects (Create name object changes) =
+      let one = created_one objects name object (reserve_step objects.table name).0 in
+      (one.0, λ q ne. changes_alike (create_step objects name object).1 changes q ∙ one.1 q ne)
   moved_one objects (Remove id) = taken_one objects.table id (unheld (active_at objects.table id))
   moved_one objects (Changes changes) = (0, λ q ne. changes_alike objects changes q)
+
+  -- a move makes at most one identifier active or not active
+  pub move_one : {old new : ObjectsState T W} → IsMove old new → AllButOne (is_there old) (is_there new)
+  move_one {old} by = subst (λ (o : ObjectsState T W). AllButOne (is_there old) (is_there o)) (sym by.is) (moved_one old by.move)
 
   -- at most one identifier becomes active or not active
   pub makes_one : {holding : Bool} {old new : ObjectsState T W} → Makes holding old new → AllButOne (is_there old) (is_there new)
@@ -133,9 +150,10 @@ module _ {T W : Type 0} where
   same_balanced : (objects : ObjectsState T W) → AreBalanced objects objects
   same_balanced objects = kept_balanced objects objects.table (λ q a b was now. now)
 
-  then_balanced : (old new later : ObjectsState T W) → Alike old.table new.table → AreBalanced old new → AreBalanced new later → AreBalanced old later
-  then_balanced old new later alike first then = λ q a c was now.
-      let between = there (active_at new.table q) (alike q ∙ ap is_some was) in
+  -- one after the other, where what is active stays
+  pub then_balanced : (old new later : ObjectsState T W) → Grows old.table new.table → AreBalanced old new → AreBalanced new later → AreBalanced old later
+  then_balanced old new later grows first then = λ q a c was now.
+      let between = there (active_at new.table q) (grows q (ap is_some was)) in
       let one = first q a between.0 was between.1 in
       let other = then q between.0 c between.1 now in
       omega arith
@@ -144,7 +162,7 @@ module _ {T W : Type 0} where
   puts_balanced objects [] suit = same_balanced objects
   puts_balanced objects (Put id object ∷ changes) suit =
       let next = changed objects (Put id object) in
-      then_balanced objects next (after_changes next changes) (change_alike objects (Put id object)) (balanced_put objects id object) (puts_balanced next changes suit.1)
+      then_balanced objects next (after_changes next changes) (λ q some. change_alike objects (Put id object) q ∙ some) (balanced_put objects id object) (puts_balanced next changes suit.1)
   puts_balanced objects (Hold id ∷ changes) suit = absurd (both_ways false refl suit.0)
   puts_balanced objects (Release id ∷ changes) suit = absurd (both_ways false refl suit.0)
   puts_balanced objects (Begin wait ∷ changes) suit = absurd suit.0
@@ -176,8 +194,9 @@ module _ {T W : Type 0} where
       ])
 
   moved_balanced : (objects : ObjectsState T W) (move : Move T W) → SuitsMove false move → AreBalanced objects (moved objects move)
-  moved_balanced objects (Create name object) suits =
-      created_balanced objects name object (reserve_step objects.table name).0 refl
+  moved_balanced objects (Create name object changes) suits =
+      let new = (create_step objects name object).1 in
+      then_balanced objects new (after_changes new changes) (create_grows objects name object (reserve_step objects.table name).0) (created_balanced objects name object (reserve_step objects.table name).0 refl) (puts_balanced new changes suits)
   moved_balanced objects (Remove id) suits = taken_balanced objects id (unheld (active_at objects.table id))
   moved_balanced objects (Changes changes) suits = puts_balanced objects changes suits
 

@@ -1,5 +1,5 @@
 -- The calls on the file of a stream leave both tables of the files.
-use Rattle.std.proofs.Common.{◌≡◌, ◌==◌, ◌&&◌, ◌||◌, ◌+◌, ◌+ℤ◌, ℤ, pos, ℕ, not, List, [], length, nat_lt, Option, Some, None, Result, Ok, Err, refl}
+use Rattle.std.proofs.Common.{◌≡◌, ◌==◌, ◌&&◌, ◌||◌, ◌+ℤ◌, ℤ, pos, ℕ, not, List, [], length, nat_lt, Option, Some, None, Result, Ok, Err, refl}
 use Rattle.osal_base.specs.declared.arguments.Access.{Access}
 use Rattle.osal_base.specs.declared.arguments.OpenFlags.{OpenFlags}
 use Rattle.osal_base.specs.declared.arguments.Whence.{Whence}

@@ -4,16 +4,16 @@ ghost use Rattle.osal_base.specs.declared.time.Moment.{Moment};
 ghost use Rattle.osal_base.specs.Limits.{Fits};
 ghost use Rattle.osal_base.specs.Reply.{replied, success};
 ghost use Rattle.osal_call.specs.Call.{part_of, takes_memory};
-ghost use Rattle.osal_call.specs.declared.call.Call.TheVariants.{WaitEnd};
 ghost use Rattle.osal_io.specs.Io as of_io;
 ghost use Rattle.osal_io.specs.Io.{no_io, is_of_stream};
-ghost use Rattle.osal_io.specs.Calls as of_calls;
-ghost use Rattle.osal_io.specs.Calls.{io_step};
+ghost use Rattle.osal_io.specs.Calls.{io_step, may_wait_or_end};
 
-use osal_base::{Ack, Limits, Moment, ObjType, OsalId, OutOfMemory, Room, Status};
+use crate::Awaited;
+use osal_base::{Ack, Limits, Moment, ObjType, OsalId, OutOfMemory, Room};
 use osal_call::Call;
 use osal_file::Files;
 use osal_object::Objects;
+use osal_socket::Net;
 use std::alloc::Global;
 use std::marker::Model;
 
@@ -22,16 +22,18 @@ use std::marker::Model;
 pub enum Stream {
     /// A file on a volume.
     File,
+    /// A socket of the process.
+    Socket,
 }
 
-/// The streams, and the files behind them with their volumes, mounts and directories.
+/// The streams with the calls that wait on them, and the files and sockets behind them.
 ///
-/// No call of this part waits: a read of a file answers at once, whatever its wait says. One that is refused changes
-/// nothing.
+/// A call that is refused changes nothing. A read of a file answers at once, whatever its wait says.
 #[derive(Drop)]
 pub struct IoPart {
-    pub(crate) streams: Objects<Stream, ()>,
+    pub(crate) streams: Objects<Stream, Awaited>,
     pub(crate) files: Files,
+    pub(crate) net: Net,
 }
 
 impl Model for IoPart {
@@ -39,12 +41,13 @@ impl Model for IoPart {
     ghost use Rattle.std.specs.Coded.{codes};
     ghost use Rattle.osal_object.specs.Code.{objects_code};
     ghost use Rattle.osal_file.specs.contracts.files.Files as of_files;
+    ghost use Rattle.osal_socket.specs.contracts.net.Net as of_net;
 
     ghost Value = { IoState };
 
-    ghost coded = { Prim.hlevel (codes, objects_code, of_files.the_row.coded) };
+    ghost coded = { Prim.hlevel (codes, objects_code, of_files.the_row.coded, of_net.the_row.coded) };
 
-    ghost view = { λ a. record { streams = a.streams; files = a.files } };
+    ghost view = { λ a. record { streams = a.streams; files = a.files; net = a.net } };
 
     ghost invariant = { λ a. Unit {0} };
 }
@@ -57,7 +60,8 @@ fn is_of_stream(id: OsalId) -> bool
 }
 
 impl IoPart {
-    /// No streams, file systems and directories, with the memory for as many as the limits say.
+    /// No streams, file systems and directories, with the memory for as many as the limits say and for a wait of each
+    /// task.
     ///
     /// It fails for want of memory alone, and costs the three capacities.
     pub fn open(alloc: Global, limits: &Limits) -> Result<IoPart, OutOfMemory>
@@ -65,8 +69,13 @@ impl IoPart {
         ensures { IfOk result (λ part. part ≡ no_io limits.now) }
     {
         let files = Files::new(alloc, limits)?;
+        let net = Net::new(alloc, limits)?;
         let streams = Objects::new(alloc, ObjType::Stream, limits.streams, limits.tasks)?;
-        Ok(IoPart { streams, files })
+        Ok(IoPart {
+            streams,
+            files,
+            net,
+        })
     }
 
     /// Whether an identifier is one of an active stream, directory or file system. The cost is constant.
@@ -80,17 +89,9 @@ impl IoPart {
         }
     }
 
-    /// Whether the end of a task's wait would not wait on: no task waits here.
-    pub fn ready(&self, task: OsalId, now: Moment, part: u32) -> bool
-        requires { part ≡ 7 }
-        ensures { result ≡ of_calls.ready self.now task now }
-    {
-        true
-    }
-
     /// Makes a call that is the part's own. The bytes of the reply are left in the room.
     ///
-    /// Only `mkfs` and `dir_open` take memory, which they ask for last.
+    /// `mkfs`, `dir_open`, `socket_open` and `socket_connect` alone take memory, which they ask for last.
     pub fn apply(
         &mut self,
         alloc: Global,
@@ -113,14 +114,46 @@ impl IoPart {
                 blocks,
             } => self.files.mkfs(alloc, device, label, *blocks),
             Call::DirOpen { path } => self.files.dir_open(alloc, path),
+            Call::SocketOpen { kind } => self.socket_open(alloc, *kind),
+            Call::SocketConnect { id, port } => self.socket_connect(alloc, *id, *port),
+            Call::Read { .. }
+            | Call::SocketAccept { .. }
+            | Call::SocketRecv { .. }
+            | Call::SelectOne { .. }
+            | Call::SelectMulti { .. }
+            | Call::WaitEnd { .. }
+            | Call::WaitAbandon { .. } => Ok(self.apply_waiting(task, now, call, room)),
             _ => Ok(self.apply_within(call, room)),
         }
     }
 
-    /// Makes a call that takes no memory.
+    /// Makes a call that may wait, or the end of a wait.
+    fn apply_waiting(&mut self, task: OsalId, now: Moment, call: &Call, room: &mut Room) -> Ack
+        requires own { IsTrue (may_wait_or_end call.now) }
+        requires empty { room.old ≡ [] }
+        ensures { (replied result room.new, self.new) ≡ io_step self.old task now call.now }
+    {
+        match call {
+            Call::Read { id, n, wait } => self.read(task, now, *id, *n, *wait, room),
+            Call::SocketAccept { id, wait } => self.socket_accept(task, now, *id, *wait),
+            Call::SocketRecv { id, n, wait } => self.socket_recv(task, now, *id, *n, *wait, room),
+            Call::SelectOne { id, mode, wait } => self.select_one(task, now, *id, *mode, *wait),
+            Call::SelectMulti {
+                reads,
+                writes,
+                wait,
+            } => self.select_multi(task, now, reads.set(), writes.set(), *wait, room),
+            Call::WaitEnd { .. } => self.wait_end(task, now, room),
+            Call::WaitAbandon { .. } => self.streams.abandon(task),
+            _ => unreachable!(),
+        }
+    }
+
+    /// Makes a call that neither takes memory nor waits.
     fn apply_within(&mut self, call: &Call, room: &mut Room) -> Ack
         requires own { IsTrue (part_of call.now == 7) }
         requires plain { takes_memory call.now ≡ false }
+        requires at_once { may_wait_or_end call.now ≡ false }
         requires empty { room.old ≡ [] }
         ensures { (task : ℕ) (now : Moment) → (replied result room.new, self.new) ≡ io_step self.old task now call.now }
     {
@@ -134,7 +167,6 @@ impl IoPart {
                 flags,
                 access,
             } => self.open_file(path, *flags, *access),
-            Call::Read { id, n, wait: _ } => self.read(*id, *n, room),
             Call::Write { id, payload } => self.write(*id, payload),
             Call::Lseek { id, offset, whence } => self.lseek(*id, *offset, *whence),
             Call::Close { id } => self.close(*id),
@@ -147,11 +179,12 @@ impl IoPart {
             Call::DirRead { id } => self.files.dir_read(*id, room),
             Call::DirRewind { id } => self.files.dir_rewind(*id),
             Call::DirClose { id } => self.files.dir_close(*id),
+            Call::SocketBind { id, port } => self.socket_bind(*id, *port),
+            Call::SocketListen { id } => self.socket_listen(*id),
+            Call::SocketSend { id, payload, port } => self.socket_send(*id, payload, *port),
+            Call::SocketShutdown { id, how } => self.socket_shutdown(*id, *how),
             Call::Hold { id } => self.hold(*id),
             Call::Release { id } => self.release(*id),
-            Call::WaitEnd { .. } | Call::WaitAbandon { .. } => {
-                Ack::refused(Status::ErrIncorrectObjState)
-            }
             _ => unreachable!(),
         }
     }

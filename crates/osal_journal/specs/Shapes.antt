@@ -2,7 +2,7 @@
 use Rattle.std.specs.Prelude.{◌==◌, Bool, true, false, List, [], ◌∷◌, ℕ, length}
 use Rattle.osal_journal.specs.declared.argument.Argument.{Argument as Given}
 use Rattle.osal_journal.specs.declared.argument.Argument.TheVariants as given
-use Rattle.osal_journal.specs.Spelled.{Argument, Text, Id, Number, Offset, Wait, Flags, Use, From}
+use Rattle.osal_journal.specs.Spelled.{Argument, Text, Id, Number, Offset, Wait, Flags, Use, From, Kind, Ways, Ready, Streams}
 
 -- an argument by what it says
 abbrev pub meant : Given → Argument
@@ -14,6 +14,10 @@ meant (given.Wait wait) = Wait wait
 meant (given.Flags flags) = Flags flags
 meant (given.Access access) = Use access
 meant (given.Whence whence) = From whence
+meant (given.Kind kind) = Kind kind
+meant (given.How how) = Ways how
+meant (given.Mode mode) = Ready mode
+meant (given.Streams set) = Streams set.now
 
 -- whether there is an identifier in front of that many more
 abbrev pub is_id_before : ℕ → List Argument → Bool

@@ -4,8 +4,14 @@ use Rattle.std.specs.Fmt.{decimal, signed_decimal}
 use Rattle.std.proofs.Common.{ℤ}
 use Rattle.osal_base.specs.declared.arguments.Access.{Access}
 use Rattle.osal_base.specs.declared.arguments.Access.TheVariants as access
+use Rattle.osal_base.specs.declared.arguments.How.{How}
+use Rattle.osal_base.specs.declared.arguments.How.TheVariants as how
+use Rattle.osal_base.specs.declared.arguments.Mode.{Mode}
+use Rattle.osal_base.specs.declared.arguments.Mode.TheVariants as mode
 use Rattle.osal_base.specs.declared.arguments.OpenFlags.{OpenFlags}
 use Rattle.osal_base.specs.declared.arguments.OpenFlags.TheVariants as flags
+use Rattle.osal_base.specs.declared.arguments.SockKind.{SockKind}
+use Rattle.osal_base.specs.declared.arguments.SockKind.TheVariants as kind
 use Rattle.osal_base.specs.declared.arguments.Whence.{Whence}
 use Rattle.osal_base.specs.declared.arguments.Whence.TheVariants as whence
 use Rattle.osal_base.specs.declared.time.Timeout.{Timeout}
@@ -34,7 +40,8 @@ use Rattle.osal_call.specs.declared.word.CallWord.TheVariants as word
 use Rattle.osal_call.specs.Signature.{word_text}
 use Rattle.osal_spelling.specs.Spelling.{id_text, quoted}
 
--- an argument: bytes, an identifier, a number, how far a seek goes, how long a call may wait, or one of a few words
+-- an argument: bytes, an identifier, a number, how far a seek goes, how long a call may wait, one of a few words, or a
+-- set of streams
 pub data Argument : Type 0 where
   Text : List ℕ → Argument
   Id : ℕ → Argument
@@ -44,6 +51,10 @@ pub data Argument : Type 0 where
   Flags : OpenFlags → Argument
   Use : Access → Argument
   From : Whence → Argument
+  Kind : SockKind → Argument
+  Ways : How → Argument
+  Ready : Mode → Argument
+  Streams : List ℕ → Argument
 
 -- how a wait is spelled
 abbrev pub wait_text : Timeout → List ℕ
@@ -70,6 +81,33 @@ whence_text whence.Set = codes "set"
 whence_text whence.Cur = codes "cur"
 whence_text whence.End = codes "end"
 
+-- how it is spelled what a socket carries
+abbrev pub kind_text : SockKind → List ℕ
+kind_text kind.Stream = codes "stream"
+kind_text kind.Dgram = codes "dgram"
+
+-- how it is spelled which ways are shut down
+abbrev pub ways_text : How → List ℕ
+ways_text how.Read = codes "read"
+ways_text how.Write = codes "write"
+ways_text how.Both = codes "both"
+
+-- how it is spelled what a select waits for
+abbrev pub ready_text : Mode → List ℕ
+ready_text mode.R = codes "r"
+ready_text mode.W = codes "w"
+ready_text mode.Rw = codes "rw"
+
+-- some streams, each behind a comma
+abbrev pub more_streams_text : List ℕ → List ℕ
+more_streams_text [] = []
+more_streams_text (id ∷ ids) = 44 ∷ id_text id ++ more_streams_text ids
+
+-- how a set of streams is spelled: its identifiers with commas between them, or a dash where there are none
+abbrev pub streams_text : List ℕ → List ℕ
+streams_text [] = codes "-"
+streams_text (id ∷ ids) = id_text id ++ more_streams_text ids
+
 -- how an argument is spelled
 abbrev pub argument_text : Argument → List ℕ
 argument_text (Text bytes) = quoted bytes
@@ -80,6 +118,10 @@ argument_text (Wait wait) = wait_text wait
 argument_text (Flags flags) = flags_text flags
 argument_text (Use access) = access_text access
 argument_text (From whence) = whence_text whence
+argument_text (Kind kind) = kind_text kind
+argument_text (Ways how) = ways_text how
+argument_text (Ready mode) = ready_text mode
+argument_text (Streams ids) = streams_text ids
 
 -- a call by its name and its arguments
 pub record Spelled : Type 0 where
@@ -152,6 +194,7 @@ spelled (call.Close id) = of_object object.Close id
 spelled (call.DirRead id) = of_object object.DirRead id
 spelled (call.DirRewind id) = of_object object.DirRewind id
 spelled (call.DirClose id) = of_object object.DirClose id
+spelled (call.SocketListen id) = of_object object.SocketListen id
 spelled (call.Hold id) = of_object object.Hold id
 spelled (call.Release id) = of_object object.Release id
 spelled (call.TaskFind name) = of_name name_word.TaskFind name
@@ -173,6 +216,8 @@ spelled (call.CountSemCreate name value) = of_value value_word.CountSemCreate na
 spelled (call.BinSemCreate name value) = of_value value_word.BinSemCreate name value
 spelled (call.TaskSetPriority id number) = of_number number_word.TaskSetPriority id number
 spelled (call.TimebaseTick id number) = of_number number_word.TimebaseTick id number
+spelled (call.SocketBind id number) = of_number number_word.SocketBind id number
+spelled (call.SocketConnect id number) = of_number number_word.SocketConnect id number
 spelled (call.Unmount path) = of_path path_word.Unmount path
 spelled (call.Rmfs path) = of_path path_word.Rmfs path
 spelled (call.StatVolume path) = of_path path_word.StatVolume path
@@ -204,6 +249,15 @@ spelled (call.Open path flags access) = of_word word.Open (Text path.bytes ∷ F
 spelled (call.Read id n wait) = of_word word.Read (Id id ∷ Number n ∷ Wait wait ∷ [])
 spelled (call.Write id payload) = of_word word.Write (Id id ∷ Text payload.bytes ∷ [])
 spelled (call.Lseek id offset whence) = of_word word.Lseek (Id id ∷ Offset offset ∷ From whence ∷ [])
+spelled (call.SocketOpen kind) = of_word word.SocketOpen (Kind kind ∷ [])
+spelled (call.SocketAccept id wait) = of_word word.SocketAccept (Id id ∷ Wait wait ∷ [])
+spelled (call.SocketSend id payload port) =
+    of_word word.SocketSend (Id id ∷ Text payload.bytes ∷ Number port ∷ [])
+spelled (call.SocketRecv id n wait) = of_word word.SocketRecv (Id id ∷ Number n ∷ Wait wait ∷ [])
+spelled (call.SocketShutdown id how) = of_word word.SocketShutdown (Id id ∷ Ways how ∷ [])
+spelled (call.SelectOne id mode wait) = of_word word.SelectOne (Id id ∷ Ready mode ∷ Wait wait ∷ [])
+spelled (call.SelectMulti reads writes wait) =
+    of_word word.SelectMulti (Streams reads ∷ Streams writes ∷ Wait wait ∷ [])
 spelled (call.ConsoleWrite payload) = of_word word.ConsoleWrite (Text payload.bytes ∷ [])
 spelled (call.Drain n) = record { name = codes "drain"; arguments = Number n ∷ [] }
 spelled (call.WaitEnd part) = record { name = codes "wait_end"; arguments = Number part ∷ [] }

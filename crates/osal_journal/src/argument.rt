@@ -1,9 +1,12 @@
 //! The arguments of calls, and how each is spelled.
 ghost use Rattle.std.specs.Prelude.{◌≡◌, ◌++◌, map, OnOk};
-ghost use Rattle.osal_journal.specs.Spelled.{wait_text as text_of_wait, flags_text as text_of_flags, access_text as text_of_access, whence_text as text_of_whence, argument_text, arguments_text};
+ghost use Rattle.osal_journal.specs.Spelled.{wait_text as text_of_wait, flags_text as text_of_flags, access_text as text_of_access, whence_text as text_of_whence, kind_text as text_of_kind, ways_text as text_of_ways, ready_text as text_of_ready, streams_text, more_streams_text, argument_text, arguments_text};
 ghost use Rattle.osal_journal.specs.Shapes.{meant};
 
-use osal_base::{Access, Bytes, OpenFlags, OsalId, OutOfMemory, Timeout, Whence};
+use osal_base::{
+    Access, Bytes, How, Mode, OpenFlags, OsalId, OutOfMemory, SockKind, Timeout, Whence,
+};
+use osal_select::BoxedSet;
 use osal_spelling::{push_bytes, push_decimal, push_id, push_quoted, push_signed};
 
 /// An argument of a call.
@@ -17,9 +20,16 @@ pub(crate) enum Argument<'a> {
     Flags(OpenFlags),
     Access(Access),
     Whence(Whence),
+    Kind(SockKind),
+    How(How),
+    Mode(Mode),
+    Streams(&'a BoxedSet),
 }
 
-fn push_wait(out: &mut Vec<u8>, wait: Timeout) -> Result<(), OutOfMemory>
+/// Appends how long a call may wait: `check`, `pend`, or the milliseconds.
+///
+/// A wait of 0 milliseconds is a check, and is spelled as one.
+pub fn push_wait(out: &mut Vec<u8>, wait: Timeout) -> Result<(), OutOfMemory>
     ensures { OnOk result (out.new.items ≡ out.old.items ++ text_of_wait wait) }
 {
     match wait {
@@ -29,7 +39,8 @@ fn push_wait(out: &mut Vec<u8>, wait: Timeout) -> Result<(), OutOfMemory>
     }
 }
 
-fn flags_text(flags: OpenFlags) -> &'static [u8]
+/// The word for what an opening does to the file.
+pub fn flags_text(flags: OpenFlags) -> &'static [u8]
     ensures { result.now ≡ text_of_flags flags }
 {
     match flags {
@@ -40,7 +51,8 @@ fn flags_text(flags: OpenFlags) -> &'static [u8]
     }
 }
 
-fn access_text(access: Access) -> &'static [u8]
+/// The word for what a file is opened for.
+pub fn access_text(access: Access) -> &'static [u8]
     ensures { result.now ≡ text_of_access access }
 {
     match access {
@@ -50,13 +62,68 @@ fn access_text(access: Access) -> &'static [u8]
     }
 }
 
-fn whence_text(whence: Whence) -> &'static [u8]
+/// The word for the place from which a seek counts.
+pub fn whence_text(whence: Whence) -> &'static [u8]
     ensures { result.now ≡ text_of_whence whence }
 {
     match whence {
         Whence::Set => b"set",
         Whence::Cur => b"cur",
         Whence::End => b"end",
+    }
+}
+
+/// The word for what a socket carries.
+pub fn kind_text(kind: SockKind) -> &'static [u8]
+    ensures { result.now ≡ text_of_kind kind }
+{
+    match kind {
+        SockKind::Stream => b"stream",
+        SockKind::Dgram => b"dgram",
+    }
+}
+
+/// The word for the ways that are shut down.
+pub fn how_text(how: How) -> &'static [u8]
+    ensures { result.now ≡ text_of_ways how }
+{
+    match how {
+        How::Read => b"read",
+        How::Write => b"write",
+        How::Both => b"both",
+    }
+}
+
+/// The word for what a select waits for.
+pub fn mode_text(mode: Mode) -> &'static [u8]
+    ensures { result.now ≡ text_of_ready mode }
+{
+    match mode {
+        Mode::R => b"r",
+        Mode::W => b"w",
+        Mode::Rw => b"rw",
+    }
+}
+
+fn push_more_streams(out: &mut Vec<u8>, ids: &[u32]) -> Result<(), OutOfMemory>
+    ensures { OnOk result (out.new.items ≡ out.old.items ++ more_streams_text ids.now) }
+{
+    for id in ids {
+        push_bytes(out, b",")?;
+        push_id(out, u64::from(*id))?;
+    }
+    Ok(())
+}
+
+fn push_streams(out: &mut Vec<u8>, ids: &[u32]) -> Result<(), OutOfMemory>
+    ensures { OnOk result (out.new.items ≡ out.old.items ++ streams_text ids.now) }
+{
+    match ids.split_first() {
+        None => push_bytes(out, b"-"),
+        Some((id, others)) => {
+            push_id(out, u64::from(*id))?;
+            push_more_streams(out, others)
+        }
     }
 }
 
@@ -72,6 +139,10 @@ fn push_argument(out: &mut Vec<u8>, argument: &Argument) -> Result<(), OutOfMemo
         Argument::Flags(flags) => push_bytes(out, flags_text(*flags)),
         Argument::Access(access) => push_bytes(out, access_text(*access)),
         Argument::Whence(whence) => push_bytes(out, whence_text(*whence)),
+        Argument::Kind(kind) => push_bytes(out, kind_text(*kind)),
+        Argument::How(how) => push_bytes(out, how_text(*how)),
+        Argument::Mode(mode) => push_bytes(out, mode_text(*mode)),
+        Argument::Streams(set) => push_streams(out, set.set().as_slice()),
     }
 }
 

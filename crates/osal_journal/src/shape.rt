@@ -3,7 +3,9 @@ ghost use Rattle.std.specs.Prelude.{◌≡◌, ◌==◌, ◌∷◌, [], false, l
 ghost use Rattle.osal_journal.specs.Spelled.{Text as OfText, Number as OfNumber, spelled, of_object, of_word};
 ghost use Rattle.osal_journal.specs.Shapes.{is_id_before, is_text, is_number, meant};
 
-use crate::argument::Argument::{self, Access, Flags, Id, Number, Offset, Text, Wait, Whence};
+use crate::argument::Argument::{
+    self, Access, Flags, How, Id, Mode, Number, Offset, Streams, Text, Wait, Whence,
+};
 use osal_base::{Bytes, OsalId};
 use osal_call::{
     Call, CallWord, NameWord, NumberWord, ObjectWord, PathWord, PathsWord, ValueWord, WaitWord,
@@ -44,6 +46,7 @@ pub(crate) fn object_of(call: &Call) -> Option<(ObjectWord, OsalId)>
         Call::DirRead { id } => (ObjectWord::DirRead, *id),
         Call::DirRewind { id } => (ObjectWord::DirRewind, *id),
         Call::DirClose { id } => (ObjectWord::DirClose, *id),
+        Call::SocketListen { id } => (ObjectWord::SocketListen, *id),
         Call::Hold { id } => (ObjectWord::Hold, *id),
         Call::Release { id } => (ObjectWord::Release, *id),
         _ => return None,
@@ -157,6 +160,18 @@ fn object_pair_of(call: &Call) -> Option<(CallWord, Argument, Argument)>
         ),
         Call::QueuePut { id, payload } => (CallWord::QueuePut, Id(*id), Text(payload)),
         Call::Write { id, payload } => (CallWord::Write, Id(*id), Text(payload)),
+        Call::SocketBind { id, port } => (
+            CallWord::Number(NumberWord::SocketBind),
+            Id(*id),
+            Number(u64::from(*port)),
+        ),
+        Call::SocketConnect { id, port } => (
+            CallWord::Number(NumberWord::SocketConnect),
+            Id(*id),
+            Number(u64::from(*port)),
+        ),
+        Call::SocketAccept { id, wait } => (CallWord::SocketAccept, Id(*id), Wait(*wait)),
+        Call::SocketShutdown { id, how } => (CallWord::SocketShutdown, Id(*id), How(*how)),
         _ => return None,
     })
 }
@@ -199,6 +214,16 @@ pub(crate) fn triple_of(call: &Call) -> Option<(CallWord, Argument, Argument, Ar
             flags,
             access,
         } => (CallWord::Open, Text(path), Flags(*flags), Access(*access)),
+        Call::SelectMulti {
+            reads,
+            writes,
+            wait,
+        } => (
+            CallWord::SelectMulti,
+            Streams(reads),
+            Streams(writes),
+            Wait(*wait),
+        ),
         _ => return object_triple_of(call),
     })
 }
@@ -233,6 +258,21 @@ fn object_triple_of(call: &Call) -> Option<(CallWord, Argument, Argument, Argume
             Offset(*offset),
             Whence(*whence),
         ),
+        Call::SocketSend { id, payload, port } => (
+            CallWord::SocketSend,
+            Id(*id),
+            Text(payload),
+            Number(u64::from(*port)),
+        ),
+        Call::SocketRecv { id, n, wait } => (
+            CallWord::SocketRecv,
+            Id(*id),
+            Number(u64::from(*n)),
+            Wait(*wait),
+        ),
+        Call::SelectOne { id, mode, wait } => {
+            (CallWord::SelectOne, Id(*id), Mode(*mode), Wait(*wait))
+        }
         _ => return None,
     })
 }

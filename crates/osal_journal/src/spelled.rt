@@ -30,7 +30,7 @@ pub(crate) fn push_call(out: &mut Vec<u8>, call: &Call) -> Result<(), OutOfMemor
     push_other(out, call)
 }
 
-/// Appends a call without arguments, or the creation of a task.
+/// Appends a call without arguments, the creation of a task, or the opening of a socket.
 fn push_other(out: &mut Vec<u8>, call: &Call) -> Result<(), OutOfMemory>
     requires id { is_id_before 0 (spelled call.now).arguments ≡ false }
     requires text { is_text (spelled call.now).arguments ≡ false }
@@ -55,6 +55,9 @@ fn push_other(out: &mut Vec<u8>, call: &Call) -> Result<(), OutOfMemory>
                 Argument::Number(u64::from(*priority)),
             ],
         ),
+        Call::SocketOpen { kind } => {
+            push_spelled(out, CallWord::SocketOpen.text(), &[Argument::Kind(*kind)])
+        }
         Call::TaskExit => push_spelled(out, CallWord::TaskExit.text(), &[]),
         Call::Checkpoint => push_spelled(out, b"checkpoint", &[]),
         Call::ConsoleEnable => {

@@ -1,5 +1,5 @@
 -- A code below 0 is one other than success.
-use Rattle.std.proofs.Common.{◌≡◌, ℕ, pos, negsuc, true, refl, arith}
+use Rattle.std.proofs.Common.{◌≡◌, pos, negsuc, true, refl, arith}
 use Rattle.std.proofs.lemmas.Bool.{both_ways, le-ltb}
 use Rattle.osal_base.specs.declared.reply.Answer.{Answer}
 use Rattle.osal_base.specs.declared.reply.Answer.TheVariants as answer

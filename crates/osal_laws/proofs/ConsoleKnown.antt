@@ -1,10 +1,10 @@
 -- What is known of every call of the console: it makes a move of the table, and none waits.
-use Rattle.std.proofs.Common.{◌≡◌, ◌==◌, ◌||◌, ◌+◌, ℕ, List, Bool, true, false, nat_lt, take, length, Option, Some, None, refl, sym, ap, subst, arith}
-use Rattle.std.proofs.lemmas.Bool.{both_ways, le-ltb}
+use Rattle.std.proofs.Common.{◌≡◌, ◌==◌, ◌||◌, ◌+◌, ℕ, List, true, false, nat_lt, take, length, refl, subst, arith}
+use Rattle.std.proofs.lemmas.Bool.{le-ltb}
 use Rattle.osal_base.specs.declared.status.Status.TheVariants as status
 use Rattle.osal_base.specs.declared.time.Moment.{Moment}
 use Rattle.osal_base.specs.declared.time.Timeout.TheVariants as timeout
-use Rattle.osal_base.specs.Reply.{Replied, refusal, is_waits}
+use Rattle.osal_base.specs.Reply.{refusal, is_waits}
 use Rattle.osal_idtable.specs.Table.{active_at}
 use Rattle.osal_object.specs.Outcomes.{Hold, Release}
 use Rattle.osal_object.proofs.Carried.{outcome_moves, outcome_keeps, outcome_waits, gone_refused}

@@ -1,8 +1,6 @@
 -- The console gives the bytes that it accepted, in order, each once.
-use Rattle.std.proofs.Common.{◌≡◌, ◌==◌, ◌||◌, ◌&&◌, ◌+◌, ◌++◌, ℕ, List, [], ◌∷◌, Bool, true, false, cond, nat_lt, length, take, drop, refl, sym, ap, subst, ◌∙◌, append_assoc}
-use Rattle.std.proofs.lemmas.Bool.{cond_both}
+use Rattle.std.proofs.Common.{◌≡◌, ◌==◌, ◌||◌, ◌&&◌, ◌+◌, ◌++◌, ℕ, List, [], ◌∷◌, Bool, true, false, cond, nat_lt, length, refl, sym, ap, subst, ◌∙◌, append_assoc}
 use Rattle.std.proofs.lemmas.List.{append-nil, take-append-drop}
-use Rattle.osal_base.specs.declared.reply.Answer.{Answer}
 use Rattle.osal_base.specs.declared.time.Moment.{Moment}
 use Rattle.osal_base.specs.Reply.{Replied, reply_of, is_success}
 use Rattle.osal_object.specs.Objects.{ObjectsState}
@@ -54,10 +52,6 @@ module _ (console : ConsoleState) (task : ℕ) (now : Moment) where
   console_shows (call.Hold id) = record { text = pending_alone console.pending _; enabled = refl }
   console_shows (call.Release id) = record { text = pending_alone console.pending _; enabled = refl }
   console_shows _ = record { text = pending_alone console.pending _; enabled = refl }
-
--- what a call of another part shows: nothing
-abbrev ShowsNothing : Call → Type 0
-ShowsNothing made = (console : ConsoleState) (reply : Replied) → Shows console made reply console
 
 module _ (state : MachineState) (task : ℕ) (now : Moment) where
   -- a call of the machine shows what it brings to the console and drains what it gives

@@ -81,7 +81,7 @@ bare_console limits = no_objects (type_number kind.Console) 1 limits.tasks
 
 -- the move that puts the console into its table
 abbrev named_console : Move (Unit {0}) (Unit {0})
-named_console = Create (Some (codes "console")) tt
+named_console = Create (Some (codes "console")) tt []
 
 -- a table of one object may be
 one_fits : IsCapacity 1
@@ -102,7 +102,7 @@ objects_counted limits entries fits =
       streams = (holds_are_counted _ _).0 _ _ _ fits.tasks;
       systems = (holds_are_counted _ _).0 _ _ _ fits.tasks;
       directories = (holds_are_counted _ _).0 _ _ _ fits.tasks;
-      console = (holds_are_counted _ _).1 (bare_console limits) named_console ((holds_are_counted _ _).0 _ _ _ fits.tasks) tt;
+      console = (holds_are_counted _ _).1 (bare_console limits) named_console ((holds_are_counted _ _).0 _ _ _ fits.tasks) (tt, tt);
     })
 
 -- the tables are well formed

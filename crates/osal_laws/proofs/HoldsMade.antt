@@ -173,7 +173,7 @@ module _ (state : MachineState) (counted : AreCounted state) (task : ℕ) (now :
       (told_by q made state.mutexes.objects (seen_as (λ (s : MutexState). s.objects) (mutex_step state.mutexes task now made)) (known_shifts mutexes_known state.mutexes task now counted.mutexes q (hold_shifts state.mutexes.objects q) (release_shifts state.mutexes.objects q) made))
       (told_by q made state.condvars.objects (seen_as (λ (s : CondvarState). s.objects) (condvar_step state.condvars task now made)) (known_shifts condvars_known state.condvars task now counted.condvars q (hold_shifts state.condvars.objects q) (release_shifts state.condvars.objects q) made))
       (let shifts = time_shifts state.time counted.timebases counted.timers task now q made in time_told state.time counted.timebases counted.timers task now q (is_timer q) made (time_step state.time task now made) shifts.timer shifts.timebase)
-      (let shifts = io_shifts state.io task now q made in io_told q state.io (is_of_stream q) (is_of_directory q) made (io_step state.io task now made) shifts.stream shifts.directory shifts.system)
+      (let shifts = io_shifts state.io counted.streams task now q made in io_told q state.io (is_of_stream q) (is_of_directory q) made (io_step state.io task now made) shifts.stream shifts.directory shifts.system)
       (told_by q made state.console.objects (seen_as (λ (s : ConsoleState). s.objects) (console_step state.console task now made)) (console_shifts state.console task now q made))
       (λ n was. absurd (both_ways false refl was))
 

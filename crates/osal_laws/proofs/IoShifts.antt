@@ -4,12 +4,15 @@ use Rattle.std.proofs.lemmas.Bool.{cond_both}
 use Rattle.osal_base.specs.declared.time.Moment.{Moment}
 use Rattle.osal_base.specs.Reply.{Replied}
 use Rattle.osal_idtable.specs.Table.{active_at}
-use Rattle.osal_object.specs.Objects.{hold_call_step, release_call_step}
-use Rattle.osal_object.specs.ObjectLaws.{holds_of}
+use Rattle.osal_object.specs.Objects.{ObjectsState, hold_call_step, release_call_step}
+use Rattle.osal_object.specs.ObjectLaws.{IsCounted, holds_of}
 use Rattle.osal_object.specs.Waits.{waits_on}
 use Rattle.osal_object.proofs.Moves.{is_there}
-use Rattle.osal_file.specs.Held.{is_of_directory}
-use Rattle.osal_io.specs.Io.{IoState, in_files, is_of_stream}
+use Rattle.osal_file.specs.declared.system.FileSystem.{FileSystem}
+use Rattle.osal_file.specs.Held.{is_of_directory, in_directories, in_systems}
+use Rattle.osal_io.specs.declared.awaited.Awaited.{Awaited}
+use Rattle.osal_io.specs.declared.part.Stream.{Stream}
+use Rattle.osal_io.specs.Io.{IoState, in_files, in_streams, is_of_stream}
 use Rattle.osal_io.specs.Calls.{io_step}
 use Rattle.osal_io.proofs.Known.{io_holds_still}
 use Rattle.osal_call.specs.declared.call.Call.{Call}
@@ -18,7 +21,7 @@ use Rattle.osal_laws.specs.Holds.{is_hold_of, is_release_of}
 use Rattle.osal_laws.proofs.Suits.{is_holding}
 use Rattle.osal_laws.proofs.Shifts.{counts, ShiftsBy, told_by, of_holding, differ, differ_too, quiet_shifts, others_hold, others_release, hold_shifts, release_shifts}
 
-module _ (io : IoState) (task : ℕ) (now : Moment) (q : ℕ) where
+module _ (io : IoState) (counted : IsCounted io.streams) (task : ℕ) (now : Moment) (q : ℕ) where
   -- the holds of an identifier shift by what a call is and answers, in the table of its type
   pub record ShiftsIo (made : Call) (stepped : Replied × IoState) : Type 0 where
     pub stream : is_of_stream q ≡ true → ShiftsBy q made io.streams (stepped.0, stepped.1.streams)
@@ -27,7 +30,7 @@ module _ (io : IoState) (task : ℕ) (now : Moment) (q : ℕ) where
 
   quiet_step : (made : Call) → is_holding made ≡ false → ShiftsIo made (io_step io task now made)
   quiet_step made none =
-      let still = io_holds_still io task now made none in
+      let still = io_holds_still io task now made none counted in
       let stepped = io_step io task now made in
       record {
         stream = λ own. quiet_shifts q made io.streams (stepped.0, stepped.1.streams) none still.0;
@@ -35,57 +38,40 @@ module _ (io : IoState) (task : ℕ) (now : Moment) (q : ℕ) where
         system = λ other not. quiet_shifts q made io.files.systems (stepped.0, stepped.1.files.systems) none still.1.0;
       }
 
-  io_hold : (id : ℕ) → ShiftsIo (call.Hold id) (io_step io task now (call.Hold id))
-  io_hold id =
-      cond_both (is_of_stream id) _ _ (ShiftsIo (call.Hold id))
+  -- a hold or a release, which shifts the holds of its own identifier and of no other
+  io_held : (made : Call) (id : ℕ) (does : (T W : Type 0) → ObjectsState T W → Replied × ObjectsState T W) → ((T W : Type 0) (objects : ObjectsState T W) → ShiftsBy q made objects (does T W objects)) → ((T W : Type 0) (objects : ObjectsState T W) (reply : Replied) → (id ≡ q → ⊥) → ShiftsBy q made objects (reply, objects)) → ShiftsIo made (cond (is_of_stream id) (in_streams io (does Stream Awaited io.streams)) (in_files io (cond (is_of_directory id) (in_directories io.files (does (Unit {0}) (Unit {0}) io.files.directories)) (in_systems io.files (does FileSystem (Unit {0}) io.files.systems)))))
+  io_held made id does shifts others =
+      cond_both (is_of_stream id) _ _ (ShiftsIo made)
       (λ own.
-      let reply = (hold_call_step io.streams id).0 in
+      let reply = (does Stream Awaited io.streams).0 in
       record {
-        stream = λ also. hold_shifts io.streams q id;
-        directory = λ other also. others_hold q io.files.directories id reply (differ is_of_stream id q own other);
-        system = λ other not. others_hold q io.files.systems id reply (differ is_of_stream id q own other);
+        stream = λ also. shifts Stream Awaited io.streams;
+        directory = λ other also. others (Unit {0}) (Unit {0}) io.files.directories reply (differ is_of_stream id q own other);
+        system = λ other not. others FileSystem (Unit {0}) io.files.systems reply (differ is_of_stream id q own other);
       })
-      (λ no_stream. cond_both (is_of_directory id) _ _ (λ stepped. ShiftsIo (call.Hold id) (in_files io stepped))
+      (λ no_stream. cond_both (is_of_directory id) _ _ (λ stepped. ShiftsIo made (in_files io stepped))
       (λ own.
-      let reply = (hold_call_step io.files.directories id).0 in
+      let reply = (does (Unit {0}) (Unit {0}) io.files.directories).0 in
       record {
-        stream = λ stream. others_hold q io.streams id reply (differ_too is_of_stream id q no_stream stream);
-        directory = λ other also. hold_shifts io.files.directories q id;
-        system = λ other not. others_hold q io.files.systems id reply (differ is_of_directory id q own not);
+        stream = λ stream. others Stream Awaited io.streams reply (differ_too is_of_stream id q no_stream stream);
+        directory = λ other also. shifts (Unit {0}) (Unit {0}) io.files.directories;
+        system = λ other not. others FileSystem (Unit {0}) io.files.systems reply (differ is_of_directory id q own not);
       })
       (λ no_directory.
-      let reply = (hold_call_step io.files.systems id).0 in
+      let reply = (does FileSystem (Unit {0}) io.files.systems).0 in
       record {
-        stream = λ stream. others_hold q io.streams id reply (differ_too is_of_stream id q no_stream stream);
-        directory = λ other directory. others_hold q io.files.directories id reply (differ_too is_of_directory id q no_directory directory);
-        system = λ other also. hold_shifts io.files.systems q id;
+        stream = λ stream. others Stream Awaited io.streams reply (differ_too is_of_stream id q no_stream stream);
+        directory = λ other directory. others (Unit {0}) (Unit {0}) io.files.directories reply (differ_too is_of_directory id q no_directory directory);
+        system = λ other also. shifts FileSystem (Unit {0}) io.files.systems;
       }))
+
+  io_hold : (id : ℕ) → ShiftsIo (call.Hold id) (io_step io task now (call.Hold id))
+  io_hold id =
+      io_held (call.Hold id) id (λ T W objects. hold_call_step objects id) (λ T W objects. hold_shifts objects q id) (λ T W objects. others_hold q objects id)
 
   io_release : (id : ℕ) → ShiftsIo (call.Release id) (io_step io task now (call.Release id))
   io_release id =
-      cond_both (is_of_stream id) _ _ (ShiftsIo (call.Release id))
-      (λ own.
-      let reply = (release_call_step io.streams id).0 in
-      record {
-        stream = λ also. release_shifts io.streams q id;
-        directory = λ other also. others_release q io.files.directories id reply (differ is_of_stream id q own other);
-        system = λ other not. others_release q io.files.systems id reply (differ is_of_stream id q own other);
-      })
-      (λ no_stream. cond_both (is_of_directory id) _ _ (λ stepped. ShiftsIo (call.Release id) (in_files io stepped))
-      (λ own.
-      let reply = (release_call_step io.files.directories id).0 in
-      record {
-        stream = λ stream. others_release q io.streams id reply (differ_too is_of_stream id q no_stream stream);
-        directory = λ other also. release_shifts io.files.directories q id;
-        system = λ other not. others_release q io.files.systems id reply (differ is_of_directory id q own not);
-      })
-      (λ no_directory.
-      let reply = (release_call_step io.files.systems id).0 in
-      record {
-        stream = λ stream. others_release q io.streams id reply (differ_too is_of_stream id q no_stream stream);
-        directory = λ other directory. others_release q io.files.directories id reply (differ_too is_of_directory id q no_directory directory);
-        system = λ other also. release_shifts io.files.systems q id;
-      }))
+      io_held (call.Release id) id (λ T W objects. release_call_step objects id) (λ T W objects. release_shifts objects q id) (λ T W objects. others_release q objects id)
 
   -- each call of the part shifts them so
   pub io_shifts : (made : Call) → ShiftsIo made (io_step io task now made)

@@ -1,12 +1,10 @@
 -- A refused call leaves the machine, and so does the end of a wait that waits on, or in a part where the task has none.
-use Rattle.std.proofs.Common.{◌≡◌, ◌==◌, ℕ, pos, negsuc, true, false, nat_lt, refl, ap, ◌∙◌, arith}
-use Rattle.std.proofs.lemmas.Bool.{cond_both, both_ways, le-ltb}
+use Rattle.std.proofs.Common.{◌≡◌, ◌==◌, ℕ, false, nat_lt, refl, ap, ◌∙◌, arith}
+use Rattle.std.proofs.lemmas.Bool.{cond_both}
 use Rattle.std.proofs.lemmas.Bool.Decides.{nat_tests}
-use Rattle.osal_base.specs.declared.reply.Answer.{Answer}
-use Rattle.osal_base.specs.declared.reply.Answer.TheVariants as answer
 use Rattle.osal_base.specs.declared.status.Status.TheVariants as status
 use Rattle.osal_base.specs.declared.time.Moment.{Moment}
-use Rattle.osal_base.specs.Reply.{Replied, refusal, is_waits}
+use Rattle.osal_base.specs.Reply.{refusal, is_waits}
 use Rattle.osal_task.specs.Tasks.{TaskState}
 use Rattle.osal_call.specs.declared.call.Call.{Call}
 use Rattle.osal_call.specs.declared.call.Call.TheVariants as call
@@ -15,7 +13,6 @@ use Rattle.osal_machine.specs.Parts.{PartState, Tasks, Queues, CountSems, BinSem
 use Rattle.osal_machine.specs.Step.{MachineState, part_in, with_part, in_machine}
 use Rattle.osal_machine.specs.OpenWaits.{has_wait}
 use Rattle.osal_laws.specs.Laws.{RefusedCallsChangeNothing, EndsThatWaitChangeNothing, EndsOfNoWaitChangeNothing, is_below_zero}
-use Rattle.osal_base.specs.Reply.{is_refusal}
 use Rattle.osal_laws.proofs.Own.{by_number}
 use Rattle.osal_laws.proofs.Below.{where_below}
 use Rattle.osal_object.proofs.Refusals.{Leaves, same, within}
@@ -27,7 +24,7 @@ use Rattle.osal_laws.proofs.BinSemKnown.{bin_sems_known}
 use Rattle.osal_laws.proofs.MutexKnown.{mutexes_known}
 use Rattle.osal_laws.proofs.CondvarKnown.{condvars_known}
 use Rattle.osal_laws.proofs.TimeKnown.{time_keeps}
-use Rattle.osal_io.proofs.Known.{io_keeps}
+use Rattle.osal_io.proofs.Known.{io_keeps, io_stays, io_refuses}
 use Rattle.osal_laws.proofs.ConsoleKnown.{console_keeps}
 
 module _ (task : ℕ) (now : Moment) where
@@ -40,7 +37,7 @@ module _ (task : ℕ) (now : Moment) where
   part_keeps made other (Mutexes mutexes) = within (λ s. Mutexes s) (where_below (known_keeps mutexes_known mutexes task now made other))
   part_keeps made other (Condvars condvars) = within (λ s. Condvars s) (where_below (known_keeps condvars_known condvars task now made other))
   part_keeps made other (Time time) = within (λ s. Time s) (where_below (time_keeps time task now made))
-  part_keeps made other (Io io) = within (λ s. Io s) (io_keeps io task now made)
+  part_keeps made other (Io io) = within (λ s. Io s) (io_keeps io task now made other)
   part_keeps made other (Console console) = within (λ s. Console s) (console_keeps console task now made)
   part_keeps made other Absent = same
 
@@ -53,7 +50,7 @@ module _ (task : ℕ) (now : Moment) where
   part_stays made (Mutexes mutexes) = within (λ s. Mutexes s) (known_stays mutexes_known mutexes task now made)
   part_stays made (Condvars condvars) = within (λ s. Condvars s) (known_stays condvars_known condvars task now made)
   part_stays made (Time time) = same
-  part_stays made (Io io) = same
+  part_stays made (Io io) = within (λ s. Io s) (io_stays io task now)
   part_stays made (Console console) = same
   part_stays made Absent = same
 
@@ -66,7 +63,7 @@ module _ (task : ℕ) (now : Moment) where
   part_refuses made (Mutexes mutexes) none = ap (as_part (λ s. Mutexes s)) (known_refuses mutexes_known mutexes task now made none)
   part_refuses made (Condvars condvars) none = ap (as_part (λ s. Condvars s)) (known_refuses condvars_known condvars task now made none)
   part_refuses made (Time time) none = refl
-  part_refuses made (Io io) none = refl
+  part_refuses made (Io io) none = ap (as_part (λ s. Io s)) (io_refuses io task now none)
   part_refuses made (Console console) none = refl
   part_refuses made Absent none = refl
 

@@ -33,6 +33,7 @@ pub mod Bounded
 pub mod Inactive
 pub mod Quiet
 pub mod Shifts
+pub mod NoneHeld
 pub mod NewObjects
 pub mod IoShifts
 pub mod HoldsMade

@@ -7,9 +7,9 @@ use Rattle.osal_idtable.specs.declared.table.ReserveFault.{ReserveFault}
 use Rattle.osal_idtable.specs.Table.{Active, TableState, Reserved, active_at}
 use Rattle.osal_idtable.specs.Steps.{reserve_step, settle, take_out, unheld}
 use Rattle.osal_idtable.proofs.WellFormed.{put_here, gone_here, gone_there}
-use Rattle.osal_object.specs.Objects.{ObjectsState, created}
+use Rattle.osal_object.specs.Objects.{ObjectsState, created, create_step}
 use Rattle.osal_object.specs.Waits.{waits_on}
-use Rattle.osal_object.specs.Moves.{Move, Create, Remove, Changes, moved}
+use Rattle.osal_object.specs.Moves.{Move, Create, Remove, Changes, moved, MayMove}
 use Rattle.osal_object.specs.ObjectLaws.{IsCounted, holds_of}
 use Rattle.osal_object.proofs.Activity.{changes_alike, reserve_active, settle_elsewhere}
 use Rattle.osal_object.proofs.HeldEach.{there, one_there}
@@ -23,6 +23,7 @@ use Rattle.osal_machine.specs.Step.{MachineState, part_in}
 use Rattle.osal_machine.specs.History.{after_entry}
 use Rattle.osal_laws.specs.Laws.{AreCounted, holds_in}
 use Rattle.osal_laws.specs.Holds.{waits_in}
+use Rattle.osal_laws.proofs.NoneHeld.{changes_unheld}
 use Rattle.osal_laws.proofs.Own.{by_number}
 use Rattle.osal_laws.proofs.PartMoves.{tasks_in, tasks_move, queues_in, queues_move, count_sems_in, count_sems_move, bin_sems_in, bin_sems_move, mutexes_in, mutexes_move, condvars_in, condvars_move, timebases_in, timebases_move, timers_in, timers_move, streams_in, streams_move, systems_in, systems_move, directories_in, directories_move, consoles_in, consoles_move}
 use Rattle.osal_laws.proofs.Replays.{entry_moves}
@@ -34,7 +35,8 @@ settled_new table id (Some name) object b none now =
     ap (λ (x : Active _). x.holds) (one_there (active_at (settle table id (Some name) (Some object)) id) b new now (put_here table.active id new))
 
 module _ {T W : Type 0} (objects : ObjectsState T W) (q : ℕ) (none : is_there objects q ≡ false) (b : Active T) where
-  created_new : (name : Option (List ℕ)) (object : T) (r : Result Reserved ReserveFault) → active_at (created objects object r (reserve_step objects.table name).1).1.table q ≡ Some b → b.holds ≡ 0
+  -- a new object is not held
+  pub created_new : (name : Option (List ℕ)) (object : T) (r : Result Reserved ReserveFault) → active_at (created objects object r (reserve_step objects.table name).1).1.table q ≡ Some b → b.holds ≡ 0
   created_new name object (Err fault) now = absurd (both_ways _ none (ap is_some now))
   created_new name object (Ok reserved) now =
       let table = (reserve_step objects.table name).1 in
@@ -60,17 +62,20 @@ module _ {T W : Type 0} (objects : ObjectsState T W) (q : ℕ) (none : is_there 
             absurd (both_ways (is_there objects q) none (ap is_some (sym (gone_there objects.table.active id q ne) ∙ now)))
       ]
 
-  moved_new : (move : Move T W) → active_at (moved objects move).table q ≡ Some b → b.holds ≡ 0
-  moved_new (Create name object) now = created_new name object (reserve_step objects.table name).0 now
-  moved_new (Remove id) now = taken_new id (unheld (active_at objects.table id)) now
-  moved_new (Changes changes) now =
+module _ {T W : Type 0} (objects : ObjectsState T W) (q : ℕ) (none : is_there objects q ≡ false) (b : Active T) where
+  moved_new : (move : Move T W) → MayMove objects move → active_at (moved objects move).table q ≡ Some b → b.holds ≡ 0
+  moved_new (Create name object changes) may now =
+      changes_unheld q (create_step objects name object).1 changes may.1
+      (λ a is. created_new objects q none a name object (reserve_step objects.table name).0 is) b now
+  moved_new (Remove id) may now = taken_new objects q none b id (unheld (active_at objects.table id)) now
+  moved_new (Changes changes) may now =
       absurd (both_ways (is_there objects q) none (sym (changes_alike objects changes q) ∙ ap is_some now))
 
 -- what a move makes active has as many holds as waits that stand on it: none
 move_new : {T W : Type 0} (q : ℕ) (old new : ObjectsState T W) → IsMove old new → IsCounted new → is_there old q ≡ false → is_there new q ≡ true → holds_of (active_at new.table q) ≡ waits_on new.waits q
 move_new q old new by counted none some =
     let found = there (active_at new.table q) some in
-    let zero = moved_new old q none found.0 by.move (ap (λ (o : ObjectsState _ _). active_at o.table q) (sym by.is) ∙ found.1) in
+    let zero = moved_new old q none found.0 by.move by.may (ap (λ (o : ObjectsState _ _). active_at o.table q) (sym by.is) ∙ found.1) in
     let held = counted.held q found.0 found.1 in
     let waits = held.waits in
     let holds = ap holds_of found.1 in

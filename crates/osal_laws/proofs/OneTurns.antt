@@ -1,20 +1,13 @@
 -- A step makes at most one identifier active or not active: one move of a table does, and no call makes two such moves.
-use Rattle.std.proofs.Common.{◌≡◌, ℕ, Bool, true, false, cond, map as map_list, is_some, Result, Ok, Err, nat_lt, inl, inr, refl, sym, ap, subst, ◌∙◌, Option, List}
-use Rattle.std.specs.FinMap as map
+use Rattle.std.proofs.Common.{◌≡◌, ℕ, Bool, true, false, cond, map, nat_lt, inl, inr, refl, sym, ap, subst, ◌∙◌}
 use Rattle.std.proofs.lemmas.Bool.{cases_eq}
 use Rattle.osal_base.specs.declared.time.Moment.{Moment}
 use Rattle.osal_base.specs.Reply.{Replied, is_success}
-use Rattle.osal_idtable.specs.declared.table.IdFault.{IdFault}
-use Rattle.osal_idtable.specs.declared.table.ReserveFault.{ReserveFault}
-use Rattle.osal_idtable.specs.Table.{TableState, Reserved, active_at}
-use Rattle.osal_idtable.specs.Steps.{reserve_step, take_out, unheld}
-use Rattle.osal_idtable.proofs.WellFormed.{gone_there}
-use Rattle.osal_object.specs.Objects.{ObjectsState, created}
-use Rattle.osal_object.specs.Moves.{Move, Create, Remove, Changes, moved}
+use Rattle.osal_object.specs.Objects.{ObjectsState}
 use Rattle.osal_object.specs.Outcomes.{as_change, carried_out}
 use Rattle.osal_object.specs.Across.{across}
-use Rattle.osal_object.proofs.Activity.{Alike, changes_alike, reserve_active, settle_elsewhere}
-use Rattle.osal_object.proofs.Moves.{IsMove, either, is_there}
+use Rattle.osal_object.proofs.Activity.{Alike, changes_alike}
+use Rattle.osal_object.proofs.Moves.{either}
 use Rattle.osal_object.proofs.Carried.{outcome_moves}
 use Rattle.osal_base.specs.declared.time.Timeout.TheVariants as timeout
 use Rattle.osal_time.specs.Time.{TimeState, TimeCall, OnTimebases, OnTimers, OnBoth, Advance, is_timer, is_active as is_active_time, done}
@@ -37,38 +30,14 @@ use Rattle.osal_laws.proofs.CondvarKnown.{condvars_known}
 use Rattle.osal_laws.proofs.TimeKnown.{SuitsCall, fits}
 use Rattle.osal_laws.proofs.Suits.{is_holding, suits_fit}
 use Rattle.osal_io.proofs.Known.{io_one}
+use Rattle.osal_io.proofs.Makes.{AllButOne, move_one}
 use Rattle.osal_laws.proofs.ConsoleKnown.{console_moves}
 
--- what is active is what was, but for one identifier
-abbrev AllButOne : (ℕ → Bool) → (ℕ → Bool) → Type 0
-AllButOne old new = (at : ℕ) × ((q : ℕ) → (q ≡ at → ⊥) → new q ≡ old q)
-
-taken_one : {T : Type 0} (table : TableState T) (id : ℕ) (r : Result T IdFault) → AllButOne (λ q. is_some (active_at table q)) (λ q. is_some (active_at (take_out table id r).1 q))
-taken_one table id (Err fault) = (id, λ q ne. refl)
-taken_one table id (Ok object) = (id, λ q ne. ap is_some (gone_there table.active id q ne))
-
 module _ {T W : Type 0} where
-  created_one : (objects : ObjectsState T W) (name : Option (List ℕ)) (object : T) (r : Result Reserved ReserveFault) → AllButOne (is_there objects) (is_there (created objects object r (reserve_step objects.table name).1).1)
-  created_one objects name object (Err fault) = (0, λ q ne. refl)
-  created_one objects name object (Ok reserved) = (
-    reserved.id,
-    λ q ne.
-        ap is_some (settle_elsewhere (reserve_step objects.table name).1 reserved.id (map.get (reserve_step objects.table name).1.reserved reserved.id) object q ne)
-        ∙ ap (λ m. is_some (map.get m q)) (reserve_active objects.table name),
-  )
-
-  moved_one : (objects : ObjectsState T W) (move : Move T W) → AllButOne (is_there objects) (is_there (moved objects move))
-  moved_one objects (Create name object) = created_one objects name object (reserve_step objects.table name).0
-  moved_one objects (Remove id) = taken_one objects.table id (unheld (active_at objects.table id))
-  moved_one objects (Changes changes) = (0, λ q ne. changes_alike objects changes q)
-
-  move_one : {old new : ObjectsState T W} → IsMove old new → AllButOne (is_there old) (is_there new)
-  move_one {old} by = subst (λ (o : ObjectsState T W). AllButOne (is_there old) (is_there o)) (sym by.is) (moved_one old by.move)
-
   across_alike : (reply : Replied) (writes : Replied → _) (objects : ObjectsState T W) → Alike objects.table (across reply writes objects).table
   across_alike reply writes objects =
       either (λ (o : ObjectsState T W). Alike objects.table o.table) (is_success reply.answer) _ _
-      (changes_alike objects (map_list as_change (writes reply)))
+      (changes_alike objects (map as_change (writes reply)))
       (λ q. refl)
 
 same_choice : (first : Bool) {a b c d : Bool} → a ≡ b → c ≡ d → cond first a c ≡ cond first b d

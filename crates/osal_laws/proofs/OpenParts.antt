@@ -25,7 +25,7 @@ waits_there (BinSems sems) some = first_waits sems.objects.waits.records some
 waits_there (Mutexes mutexes) some = first_waits mutexes.objects.waits.records some
 waits_there (Condvars condvars) some = first_waits condvars.objects.waits.records some
 waits_there (Time time) some = absurd (false≢true some)
-waits_there (Io io) some = absurd (false≢true some)
+waits_there (Io io) some = first_waits io.streams.waits.records some
 waits_there (Console console) some = absurd (false≢true some)
 waits_there Absent some = absurd (false≢true some)
 
@@ -38,6 +38,6 @@ has_there (BinSems sems) task some = some_waits sems.objects.waits.records task 
 has_there (Mutexes mutexes) task some = some_waits mutexes.objects.waits.records task some
 has_there (Condvars condvars) task some = some_waits condvars.objects.waits.records task some
 has_there (Time time) task some = absurd (false≢true some)
-has_there (Io io) task some = absurd (false≢true some)
+has_there (Io io) task some = some_waits io.streams.waits.records task some
 has_there (Console console) task some = absurd (false≢true some)
 has_there Absent task some = absurd (false≢true some)

@@ -5,13 +5,14 @@ use Rattle.osal_base.specs.declared.time.Moment.{Moment}
 use Rattle.osal_base.specs.Reply.{Replied, is_waits}
 use Rattle.osal_object.specs.declared.waits.WaitRecord.{WaitRecord}
 use Rattle.osal_idtable.specs.Table.{Active, active_at}
-use Rattle.osal_object.specs.Waits.{is_of, wait_of, stands_on, released_if}
-use Rattle.osal_object.specs.Objects.{ObjectsState}
+use Rattle.osal_idtable.specs.Steps.{reserve_step}
+use Rattle.osal_object.specs.Waits.{is_of, wait_of, waits_on, stands_on, released_if}
+use Rattle.osal_object.specs.Objects.{ObjectsState, create_step}
 use Rattle.osal_object.specs.Waiting.{ended, end_wait}
-use Rattle.osal_object.specs.Moves.{End, Changes, changed, IsAllowed}
+use Rattle.osal_object.specs.Moves.{End, Create, Changes, changed, IsAllowed}
 use Rattle.osal_object.specs.Outcomes.{Write, Put, Mark, Ending, NoWait, WaitsOn, Ends, as_change, written, ended_as}
 use Rattle.osal_object.specs.ObjectLaws.{IsCounted, holds_of}
-use Rattle.osal_object.proofs.Activity.{change_alike}
+use Rattle.osal_object.proofs.Activity.{change_alike, create_grows}
 use Rattle.osal_object.proofs.Apart.{none_stand}
 use Rattle.osal_object.proofs.Balance.{balanced_ended}
 use Rattle.osal_object.proofs.Carried.{FitsEnding}
@@ -19,10 +20,20 @@ use Rattle.osal_object.proofs.Counted.{holds_are_counted}
 use Rattle.osal_object.proofs.HeldEach.{put_holds}
 use Rattle.osal_object.proofs.Records.{share, count_less}
 use Rattle.osal_object.proofs.WaitSteps.{end_closes}
+use Rattle.osal_file.specs.Held.{is_of_directory}
+use Rattle.osal_io.specs.declared.awaited.Awaited.{Awaited}
+use Rattle.osal_io.specs.declared.part.Stream.{Stream}
+use Rattle.osal_io.specs.Io.{IoState, is_of_stream}
+use Rattle.osal_io.specs.Ends.{wait_end}
+use Rattle.osal_io.proofs.Awaits.{IsIoEnd, Refused, WaitsOn as StillWaits, Over}
+use Rattle.osal_io.proofs.Known.{io_end}
+use Rattle.osal_io.proofs.Makes.{makes_new, makes_balanced}
+use Rattle.osal_io.proofs.StreamWaits.{create_waits}
+use Rattle.osal_io.proofs.Tried.{Grown, Same, New}
 use Rattle.osal_call.specs.declared.call.Call.{Call}
 use Rattle.osal_call.specs.declared.call.Call.TheVariants as call
 use Rattle.osal_call.specs.Call.{part_of}
-use Rattle.osal_machine.specs.Parts.{part_step}
+use Rattle.osal_machine.specs.Parts.{Io, part_step}
 use Rattle.osal_machine.specs.Step.{MachineState, part_in}
 use Rattle.osal_machine.specs.OpenWaits.{has_wait}
 use Rattle.osal_machine.specs.History.{replay}
@@ -32,6 +43,7 @@ use Rattle.osal_laws.proofs.Own.{own_at, by_number}
 use Rattle.osal_laws.proofs.CallWaits.{near_part, of_near, end_at}
 use Rattle.osal_laws.proofs.Counted.{objects_counted}
 use Rattle.osal_laws.proofs.Known.{Known}
+use Rattle.osal_laws.proofs.NewObjects.{created_new}
 use Rattle.osal_laws.proofs.TaskKnown.{tasks_known}
 use Rattle.osal_laws.proofs.QueueKnown.{queues_known}
 use Rattle.osal_laws.proofs.CountSemKnown.{count_sems_known}
@@ -128,6 +140,50 @@ module _ {T W : Type 0} where
         same.holds id ∙ end_gives (written objects writes) same.counted id
         ∙ ap (λ b. holds_of (active_at (end_wait (written objects writes) task).table id) + one_if b) (same.standing id)
 
+-- holds that stay where something is there before and after, and are none where it is new
+same_held : {T : Type 0} (x y : Option (Active T)) → (is_some x ≡ true → is_some y ≡ true) → ((a b : Active T) → x ≡ Some a → y ≡ Some b → b.holds ≡ a.holds) → (is_some x ≡ false → (b : Active T) → y ≡ Some b → b.holds ≡ 0) → holds_of x ≡ holds_of y
+same_held None None stays same new = refl
+same_held None (Some b) stays same new = sym (new refl b refl)
+same_held (Some a) None stays same new = absurd (both_ways false refl (stays refl))
+same_held (Some a) (Some b) stays same new = sym (same a b refl refl)
+
+-- a create leaves the holds of what is there, and holds nothing
+created_holds : {T W : Type 0} (objects : ObjectsState T W) (name : Option (List ℕ)) (object : T) (id : ℕ) → holds_of (active_at objects.table id) ≡ holds_of (active_at (create_step objects name object).1.table id)
+created_holds objects name object id =
+    same_held (active_at objects.table id) (active_at (create_step objects name object).1.table id)
+    (create_grows objects name object (reserve_step objects.table name).0 id)
+    (λ a b was now.
+    let both = makes_balanced (makes_new objects name object) id a b was now in
+    let waits = ap (λ w. waits_on w id) (create_waits objects name object) in
+    omega arith)
+    (λ none b now. created_new objects id none b name object (reserve_step objects.table name).0 now)
+
+chosen_gives : (stream directory own : Bool) (x : ℕ) {a b c y z : ℕ} → a ≡ x + one_if own → b ≡ y → c ≡ z → cond stream a (cond directory b c) ≡ cond stream x (cond directory y z) + one_if (cond stream own false)
+chosen_gives true directory own x given others more = given
+chosen_gives false true own x given others more = omega arith
+chosen_gives false false own x given others more = omega arith
+
+module _ (io : IoState) (task : ℕ) (counted : IsCounted io.streams) where
+  grown_gives : (new : ObjectsState Stream Awaited) → Grown io.streams new → GivesBack task io.streams (end_wait new task)
+  grown_gives new (Same same) =
+      subst (λ o. GivesBack task io.streams (end_wait o task)) (sym same) (end_gives task io.streams counted)
+  grown_gives new (New made is) =
+      let start = (create_step io.streams None made).1 in
+      let also = (holds_are_counted Stream Awaited).1 io.streams (Create None made []) counted (tt, tt) in
+      subst (λ o. GivesBack task io.streams (end_wait o task)) (sym is)
+      (λ id. created_holds io.streams None made id ∙ end_gives task start also id
+      ∙ ap (λ w. holds_of (active_at (end_wait start task).table id) + one_if (stands id (wait_of w task))) (create_waits io.streams None made))
+
+  -- the end of a wait on streams, beside which one may be made
+  io_gives : (stepped : Replied × IoState) → IsIoEnd io task stepped → is_some (wait_of io.streams.waits task) ≡ true → is_waits stepped.0.answer ≡ false → (id : ℕ) → holds_in (Io io) id ≡ holds_in (Io stepped.1) id + one_if (stands_in (Io io) task id)
+  io_gives stepped (Refused none is) some over = absurd (both_ways _ none some)
+  io_gives stepped (StillWaits also is) some over =
+      absurd (both_ways (is_waits stepped.0.answer) over (ap (λ (s : Replied × IoState). is_waits s.0.answer) is))
+  io_gives stepped (Over also before answers grown systems directories is) some over =
+      subst (λ (s : Replied × IoState). (id : ℕ) → holds_in (Io io) id ≡ holds_in (Io s.1) id + one_if (stands_in (Io io) task id)) (sym is)
+      (λ id. chosen_gives (is_of_stream id) (is_of_directory id) (stands id (wait_of io.streams.waits task)) (holds_of (active_at (end_wait before.1.streams task).table id)) (grown_gives before.1.streams grown id)
+      (ap (λ o. holds_of (active_at o.table id)) (sym directories)) (ap (λ o. holds_of (active_at o.table id)) (sym systems)))
+
 known_gives : {S T W : Type 0} {number : ℕ} {own : ℕ → Bool} {objects : S → ObjectsState T W} {outcome : _} {ending : S → ℕ → Moment → Ending T W} {step : S → ℕ → Moment → Call → Replied × S} → Known number own objects outcome ending step → (old : S) (task : ℕ) (now : Moment) → IsCounted (objects old) → is_some (wait_of (objects old).waits task) ≡ true → is_waits (step old task now (call.WaitEnd number)).0.answer ≡ false → GivesBack task (objects old) (objects (step old task now (call.WaitEnd number)).1)
 known_gives {number = number} {objects = objects} {ending = ending} known old task now counted some =
     subst (λ (s : Replied × ObjectsState _ _). is_waits s.0.answer ≡ false → GivesBack task (objects old) s.1)
@@ -145,7 +201,7 @@ module _ (state : MachineState) (task : ℕ) (now : Moment) (counted : AreCounte
       (known_gives mutexes_known state.mutexes task now counted.mutexes)
       (known_gives condvars_known state.condvars task now counted.condvars)
       (λ some. absurd (both_ways false refl some))
-      (λ some. absurd (both_ways false refl some))
+      (λ some over. io_gives state.io task counted.streams (wait_end state.io task now) (io_end state.io task now) some over)
       (λ some. absurd (both_ways false refl some))
       (λ n some. absurd (both_ways false refl some))
       part

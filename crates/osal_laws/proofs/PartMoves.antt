@@ -12,6 +12,7 @@ use Rattle.osal_condvar.specs.declared.condvar.CondvarWait.{CondvarWait}
 use Rattle.osal_time.specs.Timebase.{Timebase}
 use Rattle.osal_time.specs.declared.timer.Timer.{Timer}
 use Rattle.osal_file.specs.declared.system.FileSystem.{FileSystem}
+use Rattle.osal_io.specs.declared.awaited.Awaited.{Awaited}
 use Rattle.osal_io.specs.declared.part.Stream.{Stream}
 use Rattle.osal_call.specs.declared.call.Call.{Call}
 use Rattle.osal_machine.specs.Parts.{PartState, Tasks, Queues, CountSems, BinSems, Mutexes, Condvars, Time, Io, Console, part_step}
@@ -118,7 +119,7 @@ timers_move (Time time) task now made = (time_moves time task now made).1
 timers_move _ task now made = stays none
 
 -- the streams of a part that has them
-abbrev pub streams_in : PartState → ObjectsState Stream (Unit {0})
+abbrev pub streams_in : PartState → ObjectsState Stream Awaited
 streams_in (Io io) = io.streams
 streams_in _ = none
 

@@ -10,6 +10,7 @@ use Rattle.osal_object.proofs.MovedWaits.{once_moved}
 use Rattle.osal_object.proofs.OpenWaits.{WaitsSeen, seen_of, IsClosed}
 use Rattle.osal_object.proofs.WaitSteps.{IsWaitStep, IsWaitEnd, Refuses, goes}
 use Rattle.osal_condvar.specs.declared.condvar.CondvarWait.{CondvarWait}
+use Rattle.osal_io.specs.declared.awaited.Awaited.{Awaited}
 use Rattle.osal_call.specs.declared.call.Call.{Call}
 use Rattle.osal_call.specs.declared.call.Call.TheVariants as call
 use Rattle.osal_machine.specs.Parts.{PartState, Tasks, Queues, CountSems, BinSems, Mutexes, Condvars, Time, Io, Console, Absent, absent_reply, part_step}
@@ -25,7 +26,7 @@ use Rattle.osal_laws.proofs.MutexKnown.{mutexes_known}
 use Rattle.osal_laws.proofs.BinSemKnown.{bin_sems_known}
 use Rattle.osal_laws.proofs.CondvarKnown.{condvars_known}
 use Rattle.osal_laws.proofs.TimeKnown.{time_answers}
-use Rattle.osal_io.proofs.Known.{io_answers}
+use Rattle.osal_io.proofs.Known.{io_moves, io_waits, io_ends, io_abandons}
 use Rattle.osal_laws.proofs.ConsoleKnown.{console_answers}
 use Rattle.osal_call.specs.Signature.{timeout_of, ends_wait}
 
@@ -42,7 +43,7 @@ of_each P all (BinSems sems) = all ℕ sems.objects.waits
 of_each P all (Mutexes mutexes) = all ℕ mutexes.objects.waits
 of_each P all (Condvars condvars) = all CondvarWait condvars.objects.waits
 of_each P all (Time time) = all (Unit {0}) (no_waits 0)
-of_each P all (Io io) = all (Unit {0}) (no_waits 0)
+of_each P all (Io io) = all Awaited io.streams.waits
 of_each P all (Console console) = all (Unit {0}) (no_waits 0)
 of_each P all Absent = all (Unit {0}) (no_waits 0)
 
@@ -65,7 +66,7 @@ module _ (task : ℕ) (now : Moment) (made : Call) where
   part_waits (Mutexes mutexes) other = known_waits mutexes_known mutexes task now made other
   part_waits (Condvars condvars) other = known_waits condvars_known condvars task now made other
   part_waits (Time time) other = goes (time_answers time task now made)
-  part_waits (Io io) other = goes (io_answers io task now made)
+  part_waits (Io io) other = io_waits io task now made other
   part_waits (Console console) other = goes (console_answers console task now made)
   part_waits Absent other = goes (absent_answered made)
 
@@ -82,7 +83,7 @@ module _ (task : ℕ) (now : Moment) (made : Call) where
   part_once (Mutexes mutexes) other once = once_by other mutexes.objects _ (known_moves mutexes_known mutexes task now made) once
   part_once (Condvars condvars) other once = once_by other condvars.objects _ (known_moves condvars_known condvars task now made) once
   part_once (Time time) other once = tt
-  part_once (Io io) other once = tt
+  part_once (Io io) other once = once_by other io.streams _ (io_moves io task now made).0 once
   part_once (Console console) other once = tt
   part_once Absent other once = tt
 
@@ -98,7 +99,7 @@ module _ (state : MachineState) (task : ℕ) (now : Moment) where
       (known_ends mutexes_known state.mutexes task now)
       (known_ends condvars_known state.condvars task now)
       (Refuses refl refl)
-      (Refuses refl refl)
+      (io_ends state.io task now)
       (Refuses refl refl)
       (λ n. Refuses refl refl)
       part
@@ -114,7 +115,7 @@ module _ (state : MachineState) (task : ℕ) (now : Moment) where
       (λ some. known_abandons mutexes_known state.mutexes task now some)
       (λ some. known_abandons condvars_known state.condvars task now some)
       (λ some. absurd (cc))
-      (λ some. absurd (cc))
+      (λ some. io_abandons state.io task now some)
       (λ some. absurd (cc))
       (λ n some. absurd (cc))
       part

@@ -1,47 +1,29 @@
 -- A call that neither holds nor releases an object leaves the holds of callers.
-use Rattle.std.proofs.Common.{◌≡◌, false, ◌+◌, ℕ, List, [], ◌∷◌, map as map_list, Option, Some, None, is_some, Result, Ok, Err, refl, sym, ap, subst, ◌∙◌, inl, inr, arith}
-use Rattle.std.specs.FinMap as map
-use Rattle.std.proofs.lemmas.Bool.{cases_eq, both_ways}
+use Rattle.std.proofs.Common.{◌≡◌, false, ℕ, List, [], ◌∷◌, map as map_list, Option, Some, None, refl, subst, ◌∙◌}
+use Rattle.std.proofs.lemmas.Bool.{both_ways}
 use Rattle.osal_base.specs.declared.status.Status.{Status}
 use Rattle.osal_base.specs.declared.time.Moment.{Moment}
 use Rattle.osal_base.specs.declared.time.Timeout.{Timeout}
 use Rattle.osal_base.specs.Name.{name_fault}
-use Rattle.osal_idtable.specs.declared.table.IdFault.{IdFault}
-use Rattle.osal_idtable.specs.declared.table.ReserveFault.{ReserveFault}
-use Rattle.osal_idtable.specs.Table.{Active, TableState, Reserved, active_at}
-use Rattle.osal_idtable.specs.Steps.{reserve_step, finalize_step, take_out, unheld}
-use Rattle.osal_idtable.proofs.WellFormed.{gone_here, gone_there}
+use Rattle.osal_idtable.specs.Table.{active_at}
 use Rattle.osal_object.specs.declared.waits.WaitRecord.{WaitRecord}
-use Rattle.osal_object.specs.Waits.{new_wait, wait_of, wait_fault, waits_on}
+use Rattle.osal_object.specs.Waits.{new_wait, wait_of, wait_fault}
 use Rattle.osal_object.specs.Waiting.{begun, end_wait}
-use Rattle.osal_object.specs.Objects.{ObjectsState, with_table, created}
+use Rattle.osal_object.specs.Objects.{ObjectsState}
 use Rattle.osal_object.specs.Moves.{Begin, changed, AreApart}
 use Rattle.osal_object.specs.Outcomes.{Write, Put, Mark, Outcome, Refuse, Named, On, Give, Go, Find, Make, Remove, Leave, Hold, Release, Wait, WaitAfter, Ending, NoWait, WaitsOn, Ends, as_change, written, waited, carried_out, ended_as}
 use Rattle.osal_object.specs.ObjectLaws.{IsCounted}
-use Rattle.osal_object.proofs.Activity.{Alike, change_alike, changes_alike, reserve_active, settle_elsewhere}
+use Rattle.osal_object.proofs.Activity.{Alike, change_alike, changes_alike}
 use Rattle.osal_object.proofs.Balance.{AreBalanced, balanced_put, balanced_released, balanced_begun, balanced_ended}
 use Rattle.osal_object.proofs.Carried.{of_found, of_named}
-use Rattle.osal_object.proofs.Counted.{issued_inactive}
-use Rattle.osal_object.proofs.HeldEach.{there, one_there}
+use Rattle.osal_io.proofs.Makes.{makes_none, makes_new, makes_less, makes_balanced, then_balanced}
 use Rattle.osal_laws.proofs.Suits.{Suits}
 use Rattle.osal_laws.proofs.Over.{written_counted}
 
 module _ {T W : Type 0} where
-  -- where what is active stands as it did, and no wait comes or goes
-  kept_balanced : (objects : ObjectsState T W) (table : TableState T) → ((q : ℕ) (a b : Active T) → active_at objects.table q ≡ Some a → active_at table q ≡ Some b → active_at objects.table q ≡ Some b) → AreBalanced objects (record objects { table = table })
-  kept_balanced objects table kept = λ q a b was now.
-      ap (λ (x : Active T). x.holds + waits_on objects.waits q) (one_there (active_at objects.table q) b a (kept q a b was now) was)
-
   -- where nothing changes
   pub same_balanced : (objects : ObjectsState T W) → AreBalanced objects objects
-  same_balanced objects = kept_balanced objects objects.table (λ q a b was now. now)
-
-  then_balanced : (old new later : ObjectsState T W) → Alike old.table new.table → AreBalanced old new → AreBalanced new later → AreBalanced old later
-  then_balanced old new later alike first then = λ q a c was now.
-      let between = there (active_at new.table q) (alike q ∙ ap is_some was) in
-      let one = first q a between.0 was between.1 in
-      let other = then q between.0 c between.1 now in
-      omega arith
+  same_balanced objects = makes_balanced {old = objects} (makes_none refl)
 
   one_balanced : (objects : ObjectsState T W) (write : Write T W) → AreBalanced objects (changed objects (as_change write))
   one_balanced objects (Put id object) = balanced_put objects id object
@@ -52,31 +34,7 @@ module _ {T W : Type 0} where
   written_balanced objects [] = same_balanced objects
   written_balanced objects (write ∷ writes) =
       let next = changed objects (as_change write) in
-      then_balanced objects next (written next writes) (change_alike objects (as_change write)) (one_balanced objects write) (written_balanced next writes)
-
-  created_balanced : (objects : ObjectsState T W) (name : List ℕ) (object : T) (r : Result Reserved ReserveFault) → (reserve_step objects.table (Some name)).0 ≡ r → AreBalanced objects (created objects object r (reserve_step objects.table (Some name)).1).1
-  created_balanced objects name object (Err fault) is = same_balanced objects
-  created_balanced objects name object (Ok reserved) is =
-      let between = (reserve_step objects.table (Some name)).1 in
-      kept_balanced objects (finalize_step between reserved.id (Some object))
-      (λ q a b was now. elim (cases_eq q reserved.id) [
-        | inl same ↦
-            absurd (both_ways _ (ap (λ k. is_some (active_at objects.table k)) same ∙ issued_inactive objects.table (Some name) reserved is) (ap is_some was))
-        | inr ne ↦
-            sym (settle_elsewhere between reserved.id (map.get between.reserved reserved.id) object q ne ∙ ap (λ m. map.get m q) (reserve_active objects.table (Some name)))
-            ∙ now
-      ])
-
-  taken_balanced : (objects : ObjectsState T W) (id : ℕ) (r : Result T IdFault) → AreBalanced objects (with_table objects (take_out objects.table id r).1)
-  taken_balanced objects id (Err fault) = same_balanced objects
-  taken_balanced objects id (Ok object) =
-      kept_balanced objects (take_out objects.table id (Ok object)).1
-      (λ q a b was now. elim (cases_eq q id) [
-        | inl same ↦
-            let none : map.get (map.remove objects.table.active id) q ≡ None = ap (map.get (map.remove objects.table.active id)) same ∙ gone_here objects.table.active id in
-            absurd (both_ways _ (ap is_some none) (ap is_some now))
-        | inr ne ↦ sym (gone_there objects.table.active id q ne) ∙ now
-      ])
+      then_balanced objects next (written next writes) (λ q some. change_alike objects (as_change write) q ∙ some) (one_balanced objects write) (written_balanced next writes)
 
   module _ (objects : ObjectsState T W) (counted : IsCounted objects) (task : ℕ) (now : Moment) where
     waited_balanced : (wait : WaitRecord W) (writes : List (Write T W)) (fault : Option Status) → wait_fault objects.waits wait.task ≡ fault → AreApart objects.table wait.on → AreBalanced objects (waited objects wait writes fault).1
@@ -84,7 +42,7 @@ module _ {T W : Type 0} where
     waited_balanced wait writes None is apart =
         let start = (begun objects wait None).1 in
         let alike : Alike objects.table start.table = subst (λ o. Alike objects.table (begun objects wait o).1.table) is (change_alike objects (Begin wait)) in
-        then_balanced objects start (written start writes) alike (balanced_begun objects counted wait apart None is) (written_balanced start writes)
+        then_balanced objects start (written start writes) (λ q some. alike q ∙ some) (balanced_begun objects counted wait apart None is) (written_balanced start writes)
 
     -- an outcome that neither holds nor releases leaves the holds of callers
     pub quiet_balanced : (wait : Timeout) (outcome : Outcome T W) → Suits false objects wait outcome → AreBalanced objects (carried_out objects task now outcome).1
@@ -97,9 +55,9 @@ module _ {T W : Type 0} where
     quiet_balanced wait Go suits = same_balanced objects
     quiet_balanced wait (Find name) suits = same_balanced objects
     quiet_balanced wait (Make name object) suits =
-        created_balanced objects name object (reserve_step objects.table (Some name)).0 refl
-    quiet_balanced wait (Remove id) suits = taken_balanced objects id (unheld (active_at objects.table id))
-    quiet_balanced wait (Leave id) suits = taken_balanced objects id (unheld (active_at objects.table id))
+        makes_balanced (makes_new objects (Some name) object)
+    quiet_balanced wait (Remove id) suits = makes_balanced (makes_less objects id)
+    quiet_balanced wait (Leave id) suits = makes_balanced (makes_less objects id)
     quiet_balanced wait (Hold id) suits = absurd (both_ways false refl suits)
     quiet_balanced wait (Release id) suits = absurd (both_ways false refl suits)
     quiet_balanced wait (Wait what on timeout) suits =
@@ -113,5 +71,5 @@ module _ {T W : Type 0} where
     ended_balanced WaitsOn = same_balanced objects
     ended_balanced (Ends reply writes) =
         let last = written objects writes in
-        then_balanced objects last (end_wait last task) (changes_alike objects (map_list as_change writes)) (written_balanced objects writes)
+        then_balanced objects last (end_wait last task) (λ q some. changes_alike objects (map_list as_change writes) q ∙ some) (written_balanced objects writes)
         (balanced_ended last (written_counted task objects writes counted) task (wait_of last.waits task) refl)

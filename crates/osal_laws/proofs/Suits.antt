@@ -7,14 +7,7 @@ use Rattle.osal_object.specs.Objects.{ObjectsState}
 use Rattle.osal_object.specs.Moves.{AreApart}
 use Rattle.osal_object.specs.Outcomes.{Outcome, Named, On, Hold, Release, Wait, WaitAfter}
 use Rattle.osal_object.proofs.Carried.{Fits}
-use Rattle.osal_call.specs.declared.call.Call.{Call}
-use Rattle.osal_call.specs.declared.call.Call.TheVariants as call
-
--- whether a call is a hold or a release
-abbrev pub is_holding : Call → Bool
-is_holding (call.Hold id) = true
-is_holding (call.Release id) = true
-is_holding other = false
+pub use Rattle.osal_io.proofs.Makes.{is_holding}
 
 module _ {T W : Type 0} where
   -- an outcome waits only so long, on active objects, on each once, and holds or releases only where its call does

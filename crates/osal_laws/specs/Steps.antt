@@ -13,6 +13,7 @@ use Rattle.osal_machine.specs.Parts.{PartState, Tasks, Queues, CountSems, BinSem
 use Rattle.osal_machine.specs.Step.{MachineState, part_in, step, is_active}
 use Rattle.osal_machine.specs.OpenWaits.{has_wait}
 use Rattle.osal_machine.specs.History.{replay}
+use Rattle.osal_io.specs.Io.{is_of_stream}
 use Rattle.osal_laws.specs.Laws.{holds_in}
 
 -- a step makes an identifier active or not active
@@ -41,7 +42,7 @@ stands_in (BinSems sems) task id = stands id (wait_of sems.objects.waits task)
 stands_in (Mutexes mutexes) task id = stands id (wait_of mutexes.objects.waits task)
 stands_in (Condvars condvars) task id = stands id (wait_of condvars.objects.waits task)
 stands_in (Time time) task id = false
-stands_in (Io io) task id = false
+stands_in (Io io) task id = if is_of_stream id then stands id (wait_of io.streams.waits task) else false
 stands_in (Console console) task id = false
 stands_in Absent task id = false
 

@@ -4,6 +4,10 @@ use Rattle.std.proofs.lemmas.Bool.{cond_both}
 use Rattle.osal_base.specs.declared.arguments.OpenFlags.{OpenFlags}
 use Rattle.osal_base.specs.declared.arguments.Access.{Access}
 use Rattle.osal_base.specs.declared.arguments.Whence.{Whence}
+use Rattle.osal_base.specs.declared.arguments.SockKind.{SockKind}
+use Rattle.osal_base.specs.declared.arguments.How.{How}
+use Rattle.osal_base.specs.declared.arguments.Mode.{Mode}
+use Rattle.osal_base.specs.declared.time.Timeout.{Timeout}
 use Rattle.osal_call.specs.declared.word.CallWord.{CallWord}
 use Rattle.osal_call.specs.declared.word.CallWord.TheVariants as word
 use Rattle.osal_call.specs.declared.word.PathWord.{PathWord}
@@ -18,13 +22,16 @@ use Rattle.osal_line.specs.Between.{NamesBetween}
 use Rattle.osal_line.specs.Calls.{word_of}
 use Rattle.osal_line.specs.Transfers.{id_and_payload, id_and_room}
 use Rattle.osal_line.specs.Choices.{offset_of, whence_of}
-use Rattle.osal_line.specs.Values.{is_body_name, number_below, string_of}
+use Rattle.osal_line.specs.Values.{is_body_name, number_below, string_of, wait_of}
 use Rattle.osal_line.specs.Registers.{Registers, register_at, body_at, body_number}
 use Rattle.osal_line.specs.Arguments.{as_call, only_id, named_at, only_name, id_and_wait, name_and_number, id_and_number, numbers_of, strings_of}
 use Rattle.osal_line.specs.Tasks.{without_register, task_create_of, task_exit_of, task_delay_of}
 use Rattle.osal_line.specs.Queues.{queue_create_of}
 use Rattle.osal_line.specs.Timers.{timer_add_of, timer_set_of}
 use Rattle.osal_line.specs.Files.{path_call_of, paths_call_of, mkfs_of, opening_of, open_of, lseek_of}
+use Rattle.osal_line.specs.Sockets.{sock_kind_of, how_of, socket_open_of, socket_accept_of, sent_to, socket_send_of, socket_shutdown_of}
+use Rattle.osal_line.specs.Sets.{set_at}
+use Rattle.osal_line.specs.Selects.{watch_of, select_one_of, select_multi_of}
 use Rattle.osal_line.specs.Payload.{payload_of}
 use Rattle.osal_line.specs.Consoles.{bare_call_of}
 use Rattle.osal_line.specs.Grammar.{call_of_words}
@@ -142,6 +149,66 @@ module _ (Well : ScriptCall → Type 0) where
       bound made (whence_of whence) _ tt (λ from told. well named.0 far from)))
   lseek_made (a ∷ b ∷ c ∷ d ∷ words) registers well = tt
 
+  socket_made : (words : List (List ℕ)) (registers : Registers) → ((register : ℕ) (kind : SockKind) → Well (script.SocketOpen register kind)) → MakesWell Well (socket_open_of words registers)
+  socket_made [] registers well = tt
+  socket_made (a ∷ []) registers well = tt
+  socket_made (register ∷ kind ∷ []) registers well =
+      given Well (register_at registers register) _ (λ named.
+      given Well (sock_kind_of kind) _ (λ carries told. well named.0 carries))
+  socket_made (a ∷ b ∷ c ∷ words) registers well = tt
+
+  accept_made : (words : List (List ℕ)) (registers : Registers) → ((register id : ℕ) (wait : Timeout) → Well (script.SocketAccept register id wait)) → MakesWell Well (socket_accept_of words registers)
+  accept_made [] registers well = tt
+  accept_made (a ∷ []) registers well = tt
+  accept_made (a ∷ b ∷ []) registers well = tt
+  accept_made (register ∷ id ∷ wait ∷ []) registers well =
+      given Well (register_at registers register) _ (λ named.
+      given Well (register_at named.1 id) _ (λ on.
+      given Well (wait_of wait) _ (λ until told. well named.0 on.0 until)))
+  accept_made (a ∷ b ∷ c ∷ d ∷ words) registers well = tt
+
+  sent_made : (words : List (List ℕ)) (port : List ℕ) (registers : Registers) → ((id : ℕ) (payload : List ℕ) (port : ℕ) → Well (script.SocketSend id payload port)) → MakesWell Well (sent_to words port registers)
+  sent_made words port registers well =
+      given Well (id_and_payload words registers) _ (λ named.
+      given Well (number_below (2 ^ 32) port) _ (λ to told. well named.0.0 named.0.1 to))
+
+  send_made : (words : List (List ℕ)) (registers : Registers) → ((id : ℕ) (payload : List ℕ) (port : ℕ) → Well (script.SocketSend id payload port)) → MakesWell Well (socket_send_of words registers)
+  send_made [] registers well = tt
+  send_made (a ∷ []) registers well = tt
+  send_made (a ∷ b ∷ []) registers well = tt
+  send_made (id ∷ text ∷ port ∷ []) registers well = sent_made (id ∷ text ∷ []) port registers well
+  send_made (a ∷ b ∷ c ∷ d ∷ []) registers well = tt
+  send_made (id ∷ fill ∷ count ∷ byte ∷ port ∷ []) registers well =
+      sent_made (id ∷ fill ∷ count ∷ byte ∷ []) port registers well
+  send_made (a ∷ b ∷ c ∷ d ∷ e ∷ f ∷ words) registers well = tt
+
+  shutdown_made : (words : List (List ℕ)) (registers : Registers) → ((id : ℕ) (how : How) → Well (script.SocketShutdown id how)) → MakesWell Well (socket_shutdown_of words registers)
+  shutdown_made [] registers well = tt
+  shutdown_made (a ∷ []) registers well = tt
+  shutdown_made (id ∷ how ∷ []) registers well =
+      given Well (register_at registers id) _ (λ named.
+      given Well (how_of how) _ (λ ways told. well named.0 ways))
+  shutdown_made (a ∷ b ∷ c ∷ words) registers well = tt
+
+  one_made : (words : List (List ℕ)) (registers : Registers) → ((id : ℕ) (mode : Mode) (wait : Timeout) → Well (script.SelectOne id mode wait)) → MakesWell Well (select_one_of words registers)
+  one_made [] registers well = tt
+  one_made (a ∷ []) registers well = tt
+  one_made (a ∷ b ∷ []) registers well = tt
+  one_made (id ∷ mode ∷ wait ∷ []) registers well =
+      given Well (register_at registers id) _ (λ named.
+      given Well (watch_of mode wait) _ (λ watch told. well named.0 watch.0 watch.1))
+  one_made (a ∷ b ∷ c ∷ d ∷ words) registers well = tt
+
+  multi_made : (words : List (List ℕ)) (registers : Registers) → ((reads writes : List ℕ) (wait : Timeout) → Well (script.SelectMulti reads writes wait)) → MakesWell Well (select_multi_of words registers)
+  multi_made [] registers well = tt
+  multi_made (a ∷ []) registers well = tt
+  multi_made (a ∷ b ∷ []) registers well = tt
+  multi_made (reads ∷ writes ∷ wait ∷ []) registers well =
+      given Well (set_at registers reads) _ (λ first.
+      given Well (set_at first.1 writes) _ (λ second.
+      given Well (wait_of wait) _ (λ until told. well first.0 second.0 until)))
+  multi_made (a ∷ b ∷ c ∷ d ∷ words) registers well = tt
+
   bare_made : (called : BareWord) (words : List (List ℕ)) (registers : Registers) → Well (script.Bare called) → MakesWell Well (without_register registers (bare_call_of called words))
   bare_made called [] registers well = λ told. well
   bare_made called (another ∷ words) registers well = tt
@@ -182,6 +249,13 @@ module _ (Well : ScriptCall → Type 0) where
   others_made later word.Read other well words registers = plain_made Well (λ found. script.Read found.0 found.1 found.2) (λ found. well (script.Read found.0 found.1 found.2) refl) (id_and_room words registers)
   others_made later word.Write other well words registers = plain_made Well (λ found. script.Write found.0 found.1) (λ found. well (script.Write found.0 found.1) refl) (id_and_payload words registers)
   others_made later word.Lseek other well words registers = lseek_made words registers (λ id offset whence. well (script.Lseek id offset whence) refl)
+  others_made later word.SocketOpen other well words registers = socket_made words registers (λ register kind. well (script.SocketOpen register kind) refl)
+  others_made later word.SocketAccept other well words registers = accept_made words registers (λ register id wait. well (script.SocketAccept register id wait) refl)
+  others_made later word.SocketSend other well words registers = send_made words registers (λ id payload port. well (script.SocketSend id payload port) refl)
+  others_made later word.SocketRecv other well words registers = plain_made Well (λ found. script.SocketRecv found.0 found.1 found.2) (λ found. well (script.SocketRecv found.0 found.1 found.2) refl) (id_and_room words registers)
+  others_made later word.SocketShutdown other well words registers = shutdown_made words registers (λ id how. well (script.SocketShutdown id how) refl)
+  others_made later word.SelectOne other well words registers = one_made words registers (λ id mode wait. well (script.SelectOne id mode wait) refl)
+  others_made later word.SelectMulti other well words registers = multi_made words registers (λ reads writes wait. well (script.SelectMulti reads writes wait) refl)
   others_made later word.ConsoleWrite other well words registers = unnamed_made (λ payload. script.ConsoleWrite payload) (λ payload. well (script.ConsoleWrite payload) refl) registers (payload_of words)
 
 module _ (number total : ℕ) where

@@ -6,3 +6,5 @@ pub mod Naming
 pub mod Arrows
 pub mod Declaring
 pub mod Creations
+pub mod Commas
+pub mod Streams

@@ -15,7 +15,7 @@ is_task_creation other = false
 -- whether a call with a number is a tick
 abbrev pub is_tick : NumberWord → Bool
 is_tick number.TimebaseTick = true
-is_tick number.TaskSetPriority = false
+is_tick other = false
 
 -- whether a line is a tick
 abbrev pub is_tick_line : ScriptCall → Bool

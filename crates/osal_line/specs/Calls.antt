@@ -1,5 +1,6 @@
 -- The call that a line makes, its word, and the register that it sets.
-use Rattle.std.specs.Prelude.{List, ℕ, Option, Some, None, slice_index}
+use Rattle.std.specs.Prelude.{List, [], ℕ, Option, Some, None, map, slice_index}
+use Rattle.osal_select.specs.Sets.{joined}
 use Rattle.osal_call.specs.declared.call.Call.{Call}
 use Rattle.osal_call.specs.declared.call.Call.TheVariants as call
 use Rattle.osal_call.specs.declared.word.CallWord.{CallWord}
@@ -9,6 +10,10 @@ use Rattle.osal_call.specs.Signature.{object_call, name_call, wait_call, value_c
 use Rattle.osal_line.specs.declared.line.Line.{Line}
 use Rattle.osal_line.specs.declared.line.ScriptCall.{ScriptCall}
 use Rattle.osal_line.specs.declared.line.ScriptCall.TheVariants as script
+
+-- the set of the streams whose identifiers some registers hold
+abbrev pub streams_in : List ℕ → List ℕ → List ℕ
+streams_in registers set = joined [] (map (slice_index registers) set)
 
 -- the call that a line makes under the registers
 abbrev pub call_of : ScriptCall → List ℕ → Call
@@ -35,6 +40,15 @@ call_of (script.Open register path flags access) registers = call.Open (text_of 
 call_of (script.Read id n wait) registers = call.Read (slice_index registers id) n wait
 call_of (script.Write id payload) registers = call.Write (slice_index registers id) (text_of payload)
 call_of (script.Lseek id offset whence) registers = call.Lseek (slice_index registers id) offset whence
+call_of (script.SocketOpen register kind) registers = call.SocketOpen kind
+call_of (script.SocketAccept register id wait) registers = call.SocketAccept (slice_index registers id) wait
+call_of (script.SocketSend id payload port) registers =
+    call.SocketSend (slice_index registers id) (text_of payload) port
+call_of (script.SocketRecv id n wait) registers = call.SocketRecv (slice_index registers id) n wait
+call_of (script.SocketShutdown id how) registers = call.SocketShutdown (slice_index registers id) how
+call_of (script.SelectOne id mode wait) registers = call.SelectOne (slice_index registers id) mode wait
+call_of (script.SelectMulti reads writes wait) registers =
+    call.SelectMulti (streams_in registers reads) (streams_in registers writes) wait
 call_of (script.ConsoleWrite payload) registers = call.ConsoleWrite (text_of payload)
 
 -- the call of a line, or the exit where there is none
@@ -65,6 +79,13 @@ word_of (script.Open register path flags access) = word.Open
 word_of (script.Read id n wait) = word.Read
 word_of (script.Write id payload) = word.Write
 word_of (script.Lseek id offset whence) = word.Lseek
+word_of (script.SocketOpen register kind) = word.SocketOpen
+word_of (script.SocketAccept register id wait) = word.SocketAccept
+word_of (script.SocketSend id payload port) = word.SocketSend
+word_of (script.SocketRecv id n wait) = word.SocketRecv
+word_of (script.SocketShutdown id how) = word.SocketShutdown
+word_of (script.SelectOne id mode wait) = word.SelectOne
+word_of (script.SelectMulti reads writes wait) = word.SelectMulti
 word_of (script.ConsoleWrite payload) = word.ConsoleWrite
 
 -- the name of a line's call
@@ -79,4 +100,6 @@ register_of (script.TaskCreate register name body stack priority) = Some registe
 register_of (script.QueueCreate register name depth size) = Some register
 register_of (script.TimerAdd register name timebase handler) = Some register
 register_of (script.Open register path flags access) = Some register
+register_of (script.SocketOpen register kind) = Some register
+register_of (script.SocketAccept register id wait) = Some register
 register_of other = None

@@ -13,6 +13,8 @@ use Rattle.osal_line.specs.Queues.{queue_create_of, queue_put_of, queue_get_of}
 use Rattle.osal_line.specs.Timers.{timer_add_of, timer_set_of}
 use Rattle.osal_line.specs.Consoles.{bare_call_of, console_write_of}
 use Rattle.osal_line.specs.Files.{path_call_of, paths_call_of, mkfs_of, open_of, read_of, write_of, lseek_of}
+use Rattle.osal_line.specs.Sockets.{socket_open_of, socket_accept_of, socket_send_of, socket_recv_of, socket_shutdown_of}
+use Rattle.osal_line.specs.Selects.{select_one_of, select_multi_of}
 
 -- the call that a line's arguments make, in the order in which they stand, and the registers with it; later lines
 -- declare bodies of these kinds and numbers
@@ -43,4 +45,11 @@ call_of_words later word.Open words registers = open_of words registers
 call_of_words later word.Read words registers = read_of words registers
 call_of_words later word.Write words registers = write_of words registers
 call_of_words later word.Lseek words registers = lseek_of words registers
+call_of_words later word.SocketOpen words registers = socket_open_of words registers
+call_of_words later word.SocketAccept words registers = socket_accept_of words registers
+call_of_words later word.SocketSend words registers = socket_send_of words registers
+call_of_words later word.SocketRecv words registers = socket_recv_of words registers
+call_of_words later word.SocketShutdown words registers = socket_shutdown_of words registers
+call_of_words later word.SelectOne words registers = select_one_of words registers
+call_of_words later word.SelectMulti words registers = select_multi_of words registers
 call_of_words later word.ConsoleWrite words registers = without_register registers (console_write_of words)

@@ -15,6 +15,9 @@ pub mod Tasks
 pub mod Queues
 pub mod Timers
 pub mod Files
+pub mod Sockets
+pub mod Sets
+pub mod Selects
 pub mod Consoles
 pub mod Grammar
 pub mod Expectation

@@ -10,6 +10,10 @@ use crate::declarations::Declarations;
 use crate::files::{lseek_of, mkfs_of, open_of, path_call_of, paths_call_of, read_of, write_of};
 use crate::queues::{queue_create_of, queue_get_of, queue_put_of};
 use crate::registers::Registers;
+use crate::selects::{select_multi_of, select_one_of};
+use crate::sockets::{
+    socket_accept_of, socket_open_of, socket_recv_of, socket_send_of, socket_shutdown_of,
+};
 use crate::tasks::{task_create_of, task_delay_of, task_exit_of};
 use crate::timers::{timer_add_of, timer_set_of};
 use osal_base::OutOfMemory;
@@ -31,8 +35,6 @@ pub enum FirstWord {
     End,
     /// The name of a call.
     Call(CallWord),
-    /// A word whose lines are not read yet.
-    Unbuilt,
 }
 
 /// The call that a line's arguments make, and the registers with it.
@@ -93,6 +95,13 @@ pub fn call_of_words(
         CallWord::Read => read_of(words, registers),
         CallWord::Write => write_of(alloc, words, registers),
         CallWord::Lseek => lseek_of(words, registers),
+        CallWord::SocketOpen => socket_open_of(words, registers),
+        CallWord::SocketAccept => socket_accept_of(words, registers),
+        CallWord::SocketSend => socket_send_of(alloc, words, registers),
+        CallWord::SocketRecv => socket_recv_of(words, registers),
+        CallWord::SocketShutdown => socket_shutdown_of(words, registers),
+        CallWord::SelectOne => select_one_of(words, registers),
+        CallWord::SelectMulti => select_multi_of(alloc, words, registers),
         CallWord::ConsoleWrite => console_write_of(alloc, words),
     }
 }

@@ -5,8 +5,8 @@ ghost use Rattle.osal_line.specs.Bare.{is_tick_line};
 ghost use Rattle.osal_line.specs.Calls as calls;
 ghost use Rattle.osal_line.specs.Held.{registers_after};
 
-use crate::{Expect, Literal, Register};
-use osal_base::{Access, Answer, OpenFlags, Reply, Timeout, Whence};
+use crate::{Expect, Literal, Register, RegisterSet};
+use osal_base::{Access, Answer, How, Mode, OpenFlags, Reply, SockKind, Timeout, Whence};
 use osal_call::{
     BareWord, CallWord, NameWord, NumberWord, ObjectWord, PathWord, PathsWord, ValueWord, WaitWord,
 };
@@ -132,6 +132,44 @@ pub enum ScriptCall {
         offset: i64,
         whence: Whence,
     },
+    SocketOpen {
+        register: Register,
+        kind: SockKind,
+    },
+    SocketAccept {
+        register: Register,
+        /// The socket that listens.
+        id: Register,
+        wait: Timeout,
+    },
+    SocketSend {
+        id: Register,
+        payload: Literal,
+        /// The port that it goes to.
+        port: u32,
+    },
+    SocketRecv {
+        id: Register,
+        /// The room for the bytes.
+        n: u32,
+        wait: Timeout,
+    },
+    SocketShutdown {
+        id: Register,
+        how: How,
+    },
+    SelectOne {
+        id: Register,
+        mode: Mode,
+        wait: Timeout,
+    },
+    SelectMulti {
+        /// The streams that it waits to read.
+        reads: RegisterSet,
+        /// The streams that it waits to write.
+        writes: RegisterSet,
+        wait: Timeout,
+    },
     ConsoleWrite {
         payload: Literal,
     },
@@ -173,6 +211,13 @@ impl ScriptCall {
             ScriptCall::Read { .. } => CallWord::Read,
             ScriptCall::Write { .. } => CallWord::Write,
             ScriptCall::Lseek { .. } => CallWord::Lseek,
+            ScriptCall::SocketOpen { .. } => CallWord::SocketOpen,
+            ScriptCall::SocketAccept { .. } => CallWord::SocketAccept,
+            ScriptCall::SocketSend { .. } => CallWord::SocketSend,
+            ScriptCall::SocketRecv { .. } => CallWord::SocketRecv,
+            ScriptCall::SocketShutdown { .. } => CallWord::SocketShutdown,
+            ScriptCall::SelectOne { .. } => CallWord::SelectOne,
+            ScriptCall::SelectMulti { .. } => CallWord::SelectMulti,
             ScriptCall::ConsoleWrite { .. } => CallWord::ConsoleWrite,
         }
     }
@@ -194,7 +239,9 @@ impl ScriptCall {
             | ScriptCall::TaskCreate { register, .. }
             | ScriptCall::QueueCreate { register, .. }
             | ScriptCall::TimerAdd { register, .. }
-            | ScriptCall::Open { register, .. } => Some(*register),
+            | ScriptCall::Open { register, .. }
+            | ScriptCall::SocketOpen { register, .. }
+            | ScriptCall::SocketAccept { register, .. } => Some(*register),
             ScriptCall::Object { .. }
             | ScriptCall::Wait { .. }
             | ScriptCall::Number { .. }
@@ -210,6 +257,11 @@ impl ScriptCall {
             | ScriptCall::Read { .. }
             | ScriptCall::Write { .. }
             | ScriptCall::Lseek { .. }
+            | ScriptCall::SocketSend { .. }
+            | ScriptCall::SocketRecv { .. }
+            | ScriptCall::SocketShutdown { .. }
+            | ScriptCall::SelectOne { .. }
+            | ScriptCall::SelectMulti { .. }
             | ScriptCall::ConsoleWrite { .. } => None,
         }
     }

@@ -1,17 +1,19 @@
 //! The call that a line makes under the registers.
-ghost use Rattle.std.specs.Prelude.{◌≡◌, IfOk, option_copied, slice_index};
+ghost use Rattle.std.specs.Prelude.{◌≡◌, ◌≤◌, IfOk, length, option_copied, slice_index};
 ghost use Rattle.osal_call.specs.Call as machine;
 ghost use Rattle.osal_call.specs.Call.{said};
+ghost use Rattle.osal_line.specs.declared.line.ScriptCall.TheVariants as script;
 ghost use Rattle.osal_line.specs.Calls as calls;
 
-use crate::{Line, Register, ScriptCall};
-use osal_base::{OsalId, OutOfMemory};
+use crate::{Line, Register, RegisterSet, ScriptCall};
+use osal_base::{OsalId, OutOfMemory, Timeout};
 use osal_call::{Call, part_of};
+use osal_select::{BoxedSet, FdSet};
 use std::alloc::Global;
 
 /// The call of a line under the registers, or the exit where there is no line.
 ///
-/// Names, paths and payloads are copied.
+/// Names, paths and payloads are copied, and sets of streams are made.
 pub fn call_made(
     alloc: Global,
     line: Option<&Line>,
@@ -130,6 +132,35 @@ fn call_of(alloc: Global, call: &ScriptCall, registers: &[u32; 32]) -> Result<Ca
             offset: *offset,
             whence: *whence,
         },
+        ScriptCall::SocketOpen { kind, .. } => Call::SocketOpen { kind: *kind },
+        ScriptCall::SocketAccept { id, wait, .. } => Call::SocketAccept {
+            id: held_in(registers, *id),
+            wait: *wait,
+        },
+        ScriptCall::SocketSend { id, payload, port } => Call::SocketSend {
+            id: held_in(registers, *id),
+            payload: payload.copied(alloc)?,
+            port: *port,
+        },
+        ScriptCall::SocketRecv { id, n, wait } => Call::SocketRecv {
+            id: held_in(registers, *id),
+            n: *n,
+            wait: *wait,
+        },
+        ScriptCall::SocketShutdown { id, how } => Call::SocketShutdown {
+            id: held_in(registers, *id),
+            how: *how,
+        },
+        ScriptCall::SelectOne { id, mode, wait } => Call::SelectOne {
+            id: held_in(registers, *id),
+            mode: *mode,
+            wait: *wait,
+        },
+        ScriptCall::SelectMulti {
+            reads,
+            writes,
+            wait,
+        } => select_of(alloc, reads, writes, *wait, registers)?,
         ScriptCall::ConsoleWrite { payload } => Call::ConsoleWrite {
             payload: payload.copied(alloc)?,
         },
@@ -162,7 +193,14 @@ pub fn part_made(line: Option<&Line>, registers: &[u32; 32]) -> u32
         | ScriptCall::Open { .. }
         | ScriptCall::Read { .. }
         | ScriptCall::Write { .. }
-        | ScriptCall::Lseek { .. } => 7,
+        | ScriptCall::Lseek { .. }
+        | ScriptCall::SocketOpen { .. }
+        | ScriptCall::SocketAccept { .. }
+        | ScriptCall::SocketSend { .. }
+        | ScriptCall::SocketRecv { .. }
+        | ScriptCall::SocketShutdown { .. }
+        | ScriptCall::SelectOne { .. }
+        | ScriptCall::SelectMulti { .. } => 7,
         ScriptCall::Bare { .. } | ScriptCall::ConsoleWrite { .. } => 8,
     }
 }
@@ -172,4 +210,44 @@ fn held_in(registers: &[u32; 32], register: Register) -> OsalId
     ensures { result ≡ slice_index registers.now register }
 {
     OsalId::of_raw(registers[register.index()])
+}
+
+/// A select among the streams whose identifiers the registers of two sets hold.
+fn select_of(
+    alloc: Global,
+    reads: &RegisterSet,
+    writes: &RegisterSet,
+    wait: Timeout,
+    registers: &[u32; 32],
+) -> Result<Call, OutOfMemory>
+    ensures { IfOk result (λ made. said made ≡ calls.call_of (script.SelectMulti reads.now writes.now wait) registers.now) }
+{
+    let reads = set_of(alloc, reads, registers)?;
+    let writes = set_of(alloc, writes, registers)?;
+    Ok(Call::SelectMulti {
+        reads,
+        writes,
+        wait,
+    })
+}
+
+/// The streams whose identifiers the registers of a set hold.
+fn set_of(alloc: Global, set: &RegisterSet, registers: &[u32; 32]) -> Result<BoxedSet, OutOfMemory>
+    ensures { IfOk result (λ made. made ≡ calls.streams_in registers.now set.now) }
+{
+    BoxedSet::new(alloc, streams_in(registers, set.as_slice()))
+}
+
+/// The set of the streams whose identifiers some registers hold.
+///
+/// It costs the product of the number of registers and that of the streams.
+fn streams_in(registers: &[u32; 32], named: &[Register]) -> FdSet
+    requires { length named.now ≤ 64 }
+    ensures { result ≡ calls.streams_in registers.now named.now }
+{
+    let mut streams = FdSet::zero();
+    for register in named {
+        streams.add(held_in(registers, *register));
+    }
+    streams
 }

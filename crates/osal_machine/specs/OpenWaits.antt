@@ -19,7 +19,7 @@ has_wait (BinSems sems) task = is_some (wait_of sems.objects.waits task)
 has_wait (Mutexes mutexes) task = is_some (wait_of mutexes.objects.waits task)
 has_wait (Condvars condvars) task = is_some (wait_of condvars.objects.waits task)
 has_wait (Time time) task = false
-has_wait (Io io) task = false
+has_wait (Io io) task = is_some (wait_of io.streams.waits task)
 has_wait (Console console) task = false
 has_wait Absent task = false
 
@@ -32,7 +32,7 @@ has_waits (BinSems sems) = nat_lt 0 (length sems.objects.waits.records)
 has_waits (Mutexes mutexes) = nat_lt 0 (length mutexes.objects.waits.records)
 has_waits (Condvars condvars) = nat_lt 0 (length condvars.objects.waits.records)
 has_waits (Time time) = false
-has_waits (Io io) = false
+has_waits (Io io) = nat_lt 0 (length io.streams.waits.records)
 has_waits (Console console) = false
 has_waits Absent = false
 
@@ -45,7 +45,7 @@ WaitsOnce (BinSems sems) task = AtMostOne (is_of task) sems.objects.waits.record
 WaitsOnce (Mutexes mutexes) task = AtMostOne (is_of task) mutexes.objects.waits.records
 WaitsOnce (Condvars condvars) task = AtMostOne (is_of task) condvars.objects.waits.records
 WaitsOnce (Time time) task = Unit {0}
-WaitsOnce (Io io) task = Unit {0}
+WaitsOnce (Io io) task = AtMostOne (is_of task) io.streams.waits.records
 WaitsOnce (Console console) task = Unit {0}
 WaitsOnce Absent task = Unit {0}
 
@@ -58,6 +58,6 @@ deadlines_of now (BinSems sems) = deadlines_in now sems.objects.waits.records
 deadlines_of now (Mutexes mutexes) = deadlines_in now mutexes.objects.waits.records
 deadlines_of now (Condvars condvars) = deadlines_in now condvars.objects.waits.records
 deadlines_of now (Time time) = []
-deadlines_of now (Io io) = []
+deadlines_of now (Io io) = deadlines_in now io.streams.waits.records
 deadlines_of now (Console console) = []
 deadlines_of now Absent = []

@@ -116,7 +116,8 @@ impl Whole {
             3 => self.bin_sems.ready(task, now, part),
             4 => self.mutexes.ready(task, now, part),
             5 => self.condvars.ready(task, now, part),
-            6 | 7 | 8 => true,
+            7 => self.io.ready(task, now, part),
+            6 | 8 => true,
             _ => self.tasks.ready(task, now, part),
         }
     }
@@ -170,7 +171,8 @@ impl Whole {
         let bin_sems = self.bin_sems.next_deadline(now);
         let mutexes = self.mutexes.next_deadline(now);
         let condvars = self.condvars.next_deadline(now);
-        let of_locks = sooner(mutexes, condvars);
+        let io = self.io.next_deadline(now);
+        let of_locks = sooner(mutexes, sooner(condvars, io));
         let of_sems = sooner(count_sems, sooner(bin_sems, of_locks));
         sooner(tasks, sooner(queues, of_sems))
     }

@@ -8,21 +8,23 @@ use Rattle.osal_idtable.specs.Table.{TableState, Reserved, active_at}
 use Rattle.osal_idtable.specs.Steps.{reserve_step, finalize_step, take_out, unheld}
 use Rattle.osal_idtable.specs.Laws.{Call, Finalize, after_calls}
 use Rattle.osal_object.specs.Objects.{ObjectsState, created}
-use Rattle.osal_object.specs.Moves.{Move, Create, Remove, Changes, moved, after_moves}
+use Rattle.osal_object.specs.Moves.{Change, Move, Create, Remove, Changes, moved, after_changes, after_moves}
 use Rattle.osal_object.specs.ObjectLaws.{NotActiveAgain}
 use Rattle.osal_idtable.proofs.WellFormed.{gone_here, gone_there}
 use Rattle.osal_idtable.proofs.Serials.{not_reissued, settle_stays}
-use Rattle.osal_object.proofs.ByCalls.{IsByCalls, by_moves}
+use Rattle.osal_object.proofs.ByCalls.{IsByCalls, by_both, by_changes, by_moves}
 use Rattle.osal_object.proofs.Activity.{reserve_active, settle_elsewhere, changes_alike}
+use Rattle.osal_object.proofs.Wraps.{changes_wraps}
 
 module _ {T : Type 0} where
-  -- an identifier was issued under a name and made active in one step
+  -- an identifier was issued under a name and made active in one step, and some calls came after that left the wrap count
   record IsMade (old new : TableState T) (id : ℕ) : Type 0 where
     name : Option (List ℕ)
     object : T
     reserved : Reserved
     issued : (reserve_step old name).0 ≡ Ok reserved
-    table : new ≡ finalize_step (reserve_step old name).1 reserved.id (Some object)
+    after : IsByCalls (finalize_step (reserve_step old name).1 reserved.id (Some object)) new
+    wraps : new.wraps ≡ (reserve_step old name).1.wraps
     same : reserved.id ≡ id
 
   made_is : (old : TableState T) (name : Option (List ℕ)) (object : T) (reserved : Reserved) (id : ℕ) → is_some (active_at old id) ≡ false → is_some (active_at (finalize_step (reserve_step old name).1 reserved.id (Some object)) id) ≡ true → reserved.id ≡ id
@@ -52,35 +54,34 @@ module _ {T : Type 0} where
       let P : TableState T → Type 0 = λ t. (reserve_step t other).0 ≡ Ok again → again.id ≡ reserved.id → (reserve_step table name).1.wraps < 2 ^ 64 - 1 → (reserve_step table name).1.wraps < (reserve_step t other).1.wraps in
       subst P is (not_reissued T table name reserved issued (Finalize reserved.id (Some object) ∷ calls) other again)
 
-  -- a create leaves the wrap count of its reservation
-  wraps_of : (old new : TableState T) (id : ℕ) (made : IsMade old new id) → new.wraps ≡ (reserve_step old made.name).1.wraps
-  wraps_of old new id made =
-      let table = (reserve_step old made.name).1 in
-      ap (λ (t : TableState T). t.wraps) made.table
-      ∙ ap (λ p. p.wraps) (settle_stays table made.reserved.id (map.get table.reserved made.reserved.id) (Some made.object)).1
-
   risen_between : (old start later new : TableState T) (id : ℕ) → IsMade old start id → IsByCalls start later → IsMade later new id → start.wraps < 2 ^ 64 - 1 → start.wraps < new.wraps
   risen_between old start later new id first between second room =
-      let at_first = wraps_of old start id first in
-      let at_second = wraps_of later new id second in
-      let less = risen old first.name first.object first.reserved first.issued between.calls later (ap (λ t. after_calls t between.calls) (sym first.table) ∙ between.same) second.name second.reserved second.issued (second.same ∙ sym first.same) (omega arith) in
+      let at_first = first.wraps in
+      let at_second = second.wraps in
+      let on = by_both (finalize_step (reserve_step old first.name).1 first.reserved.id (Some first.object)) start later first.after between in
+      let less = risen old first.name first.object first.reserved first.issued on.calls later on.same second.name second.reserved second.issued (second.same ∙ sym first.same) (omega arith) in
       omega arith
 
 module _ {T W : Type 0} (objects : ObjectsState T W) (id : ℕ) (before : is_some (active_at objects.table id) ≡ false) where
-  made_by : (name : Option (List ℕ)) (object : T) (r : Result Reserved ReserveFault) → (reserve_step objects.table name).0 ≡ r → is_some (active_at (created objects object r (reserve_step objects.table name).1).1.table id) ≡ true → IsMade objects.table (created objects object r (reserve_step objects.table name).1).1.table id
-  made_by name object (Err fault) is after = absurd (both_ways (is_some (active_at objects.table id)) before after)
-  made_by name object (Ok reserved) is after = record {
-    name = name;
-    object = object;
-    reserved = reserved;
-    issued = is;
-    table = refl;
-    same = made_is objects.table name object reserved id before after;
-  }
+  made_by : (name : Option (List ℕ)) (object : T) (changes : List (Change T W)) (r : Result Reserved ReserveFault) → (reserve_step objects.table name).0 ≡ r → is_some (active_at (after_changes (created objects object r (reserve_step objects.table name).1).1 changes).table id) ≡ true → IsMade objects.table (after_changes (created objects object r (reserve_step objects.table name).1).1 changes).table id
+  made_by name object changes (Err fault) is after =
+      absurd (both_ways (is_some (active_at objects.table id)) before (sym (changes_alike objects changes id) ∙ after))
+  made_by name object changes (Ok reserved) is after =
+      let table = (reserve_step objects.table name).1 in
+      let new = (created objects object (Ok reserved) table).1 in
+      record {
+        name = name;
+        object = object;
+        reserved = reserved;
+        issued = is;
+        after = by_changes new changes;
+        wraps = changes_wraps new changes ∙ ap (λ p. p.wraps) (settle_stays table reserved.id (map.get table.reserved reserved.id) (Some object)).1;
+        same = made_is objects.table name object reserved id before (sym (changes_alike new changes id) ∙ after);
+      }
 
   -- only a create makes an identifier active
   made : (move : Move T W) → is_some (active_at (moved objects move).table id) ≡ true → IsMade objects.table (moved objects move).table id
-  made (Create name object) after = made_by name object (reserve_step objects.table name).0 refl after
+  made (Create name object changes) after = made_by name object changes (reserve_step objects.table name).0 refl after
   made (Remove other) after =
       absurd (both_ways (is_some (active_at objects.table id)) before (none_taken_in objects.table other id (unheld (active_at objects.table other)) after))
   made (Changes changes) after =

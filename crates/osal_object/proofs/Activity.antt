@@ -14,7 +14,7 @@ use Rattle.osal_idtable.specs.Next.{next_place}
 use Rattle.osal_idtable.specs.Steps.{issue, reserve_step, settle, take_out, unheld}
 use Rattle.osal_idtable.specs.Holds.{held, hold_step, released, release_step}
 use Rattle.osal_object.specs.Waits.{wait_fault, wait_of, waits_on}
-use Rattle.osal_object.specs.Objects.{ObjectsState, created, held_by_caller, released_by_caller, caller_hold_limit}
+use Rattle.osal_object.specs.Objects.{ObjectsState, created, create_step, held_by_caller, released_by_caller, caller_hold_limit}
 use Rattle.osal_object.specs.Waiting.{hold_each, release_each, begun, ended}
 use Rattle.osal_object.specs.Moves.{Change, Put, Hold, Release, Begin, End, Mark, Create, Remove, Changes, changed, after_changes}
 use Rattle.osal_object.specs.ObjectLaws.{HeldObjectsStay}
@@ -161,8 +161,9 @@ module _ {T W : Type 0} where
 
 -- no held object is removed
 pub held_objects_stay : (T W : Type 0) → HeldObjectsStay T W
-held_objects_stay T W objects (Create name object) id a here gone =
-    absurd (both_ways _ gone (create_grows objects name object (reserve_step objects.table name).0 id (ap is_some here)))
+held_objects_stay T W objects (Create name object changes) id a here gone =
+    absurd (both_ways _ gone (changes_alike (create_step objects name object).1 changes id
+    ∙ create_grows objects name object (reserve_step objects.table name).0 id (ap is_some here)))
 held_objects_stay T W objects (Remove other) id a here gone =
     taken_unheld objects.table other id (active_at objects.table other) a refl here gone
 held_objects_stay T W objects (Changes changes) id a here gone =

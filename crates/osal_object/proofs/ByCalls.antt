@@ -14,7 +14,7 @@ use Rattle.osal_idtable.specs.Laws.{Call, called, after_calls}
 use Rattle.osal_idtable.specs.Laws as call
 use Rattle.osal_idtable.specs.WellFormed.{IsWellFormed}
 use Rattle.osal_object.specs.Waits.{wait_fault, wait_of, waits_on}
-use Rattle.osal_object.specs.Objects.{ObjectsState, created, held_by_caller, released_by_caller, caller_hold_limit}
+use Rattle.osal_object.specs.Objects.{ObjectsState, created, create_step, held_by_caller, released_by_caller, caller_hold_limit}
 use Rattle.osal_object.specs.Waiting.{hold_each, release_each, begun, ended}
 use Rattle.osal_object.specs.Moves.{Change, Put, Hold, Release, Begin, End, Mark, Move, Create, Remove, Changes, changed, after_changes, moved, after_moves}
 use Rattle.osal_object.specs.ObjectLaws.{TablesStayWellFormed}
@@ -36,7 +36,8 @@ module _ {T : Type 0} where
   by_one : (table : TableState T) (one : Call T) → IsByCalls table (called table one)
   by_one table one = record { calls = one ∷ []; same = refl }
 
-  by_both : (first second third : TableState T) → IsByCalls first second → IsByCalls second third → IsByCalls first third
+  -- one after another
+  pub by_both : (first second third : TableState T) → IsByCalls first second → IsByCalls second third → IsByCalls first third
   by_both first second third one two = record {
     calls = one.calls ++ two.calls;
     same = after_both first one.calls two.calls ∙ ap (λ t. after_calls t two.calls) one.same ∙ two.same;
@@ -107,14 +108,17 @@ module _ {T W : Type 0} (objects : ObjectsState T W) where
   }
 
 module _ {T W : Type 0} where
-  by_changes : (objects : ObjectsState T W) (changes : List (Change T W)) → IsByCalls objects.table (after_changes objects changes).table
+  -- changes are some calls
+  pub by_changes : (objects : ObjectsState T W) (changes : List (Change T W)) → IsByCalls objects.table (after_changes objects changes).table
   by_changes objects [] = by_none objects.table
   by_changes objects (change ∷ changes) =
       by_both objects.table (changed objects change).table _ (by_change objects change) (by_changes (changed objects change) changes)
 
   -- a move is some calls
   pub by_move : (objects : ObjectsState T W) (move : Move T W) → IsByCalls objects.table (moved objects move).table
-  by_move objects (Create name object) = by_create objects name object (reserve_step objects.table name).0
+  by_move objects (Create name object changes) =
+      let new = (create_step objects name object).1 in
+      by_both objects.table new.table _ (by_create objects name object (reserve_step objects.table name).0) (by_changes new changes)
   by_move objects (Remove id) = by_one objects.table (call.Remove id)
   by_move objects (Changes changes) = by_changes objects changes
 

@@ -121,7 +121,7 @@ module _ {T W : Type 0} where
     outcome_moves wait (Named name does) fits =
         of_named (λ s. IsMove objects s.1) objects (carried_out objects task now does) (name_fault name) (λ by. stays objects) (outcome_moves wait does fits)
     outcome_moves wait Go fits = stays objects
-    outcome_moves wait (Make name object) fits = record { move = MakeMove (Some name) object; may = tt; is = refl }
+    outcome_moves wait (Make name object) fits = record { move = MakeMove (Some name) object []; may = (tt, tt); is = refl }
     outcome_moves wait (Remove id) fits = record { move = RemoveMove id; may = tt; is = refl }
     outcome_moves wait (Leave id) fits = record { move = RemoveMove id; may = tt; is = refl }
     outcome_moves wait (Hold id) fits = changes objects (HoldChange id) tt

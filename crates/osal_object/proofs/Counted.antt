@@ -17,7 +17,7 @@ use Rattle.osal_idtable.specs.Next.{next_place, is_free_at}
 use Rattle.osal_idtable.specs.Steps.{reserve_step, settle, finalize_step, take_out, unheld}
 use Rattle.osal_idtable.specs.Sound.{AtMostOne}
 use Rattle.osal_object.specs.Waits.{is_of, waits_on, wait_of, wait_fault, released_if}
-use Rattle.osal_object.specs.Objects.{ObjectsState, created, held_by_caller, released_by_caller, caller_hold_limit}
+use Rattle.osal_object.specs.Objects.{ObjectsState, created, create_step, held_by_caller, released_by_caller, caller_hold_limit}
 use Rattle.osal_object.specs.Waiting.{begun, ended}
 use Rattle.osal_object.specs.Moves.{Change, Put, Hold, Release, Begin, End, Mark, Move, Create, Remove, Changes, changed, after_changes, moved, AreApart, IsAllowed, AreAllowed, MayMove}
 use Rattle.osal_object.specs.ObjectLaws.{IsHeldBy, IsCounted, HoldsAreCounted}
@@ -197,7 +197,8 @@ module _ {T W : Type 0} where
       changes_counted (changed objects change) changes (change_counted objects counted change may.0) may.1
 
   move_counted : (objects : ObjectsState T W) (move : Move T W) → IsCounted objects → MayMove objects move → IsCounted (moved objects move)
-  move_counted objects (Create name object) counted may = create_counted objects counted name object (reserve_step objects.table name).0 refl
+  move_counted objects (Create name object changes) counted may =
+      changes_counted (create_step objects name object).1 changes (create_counted objects counted name object (reserve_step objects.table name).0 refl) may.0
   move_counted objects (Remove id) counted may = remove_counted objects counted id (active_at objects.table id) refl
   move_counted objects (Changes changes) counted may = changes_counted objects changes counted may
 

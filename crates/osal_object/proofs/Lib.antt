@@ -1,6 +1,7 @@
 pub mod Deadlines
 pub mod ByCalls
 pub mod Activity
+pub mod Wraps
 pub mod ActiveOnce
 pub mod Tested
 pub mod Records

@@ -10,7 +10,7 @@ use Rattle.osal_idtable.specs.Table.{Active, TableState, Reserved, active_at}
 use Rattle.osal_idtable.specs.Steps.{reserve_step}
 use Rattle.osal_idtable.specs.Sound.{AtMostOne}
 use Rattle.osal_object.specs.Waits.{is_of, wait_of, wait_fault, waits_on}
-use Rattle.osal_object.specs.Objects.{ObjectsState, created, held_by_caller, released_by_caller, caller_hold_limit}
+use Rattle.osal_object.specs.Objects.{ObjectsState, created, create_step, held_by_caller, released_by_caller, caller_hold_limit}
 use Rattle.osal_object.specs.Waiting.{begun, ended}
 use Rattle.osal_object.specs.Moves.{Change, Put, Hold, Release, Begin, End, Mark, Move, Create, Remove, Changes, changed, after_changes, moved}
 use Rattle.osal_object.proofs.Balance.{may_begin}
@@ -59,7 +59,7 @@ module _ {T W : Type 0} (task : ℕ) where
 
   -- a task has at most one open wait after a move where it had at most one before
   pub once_moved : (objects : ObjectsState T W) (move : Move T W) → WaitsOnce objects → WaitsOnce (moved objects move)
-  once_moved objects (Create name object) once =
-      once_created objects once object (reserve_step objects.table name).0 (reserve_step objects.table name).1
+  once_moved objects (Create name object changes) once =
+      once_after (create_step objects name object).1 changes (once_created objects once object (reserve_step objects.table name).0 (reserve_step objects.table name).1)
   once_moved objects (Remove id) once = once
   once_moved objects (Changes changes) once = once_after objects changes once

@@ -15,9 +15,9 @@ pub data Change (T W : Type 0) : Type 0 where
   End : ℕ → Change T W
   Mark : (WaitRecord W → Bool) → Change T W
 
--- what one call does: it makes an object, removes one, or makes some changes
+-- what one call does: it makes an object, and then makes some changes; removes one; or makes some changes
 pub data Move (T W : Type 0) : Type 0 where
-  Create : Option (List ℕ) → T → Move T W
+  Create : Option (List ℕ) → T → List (Change T W) → Move T W
   Remove : ℕ → Move T W
   Changes : List (Change T W) → Move T W
 
@@ -45,7 +45,7 @@ module _ {T W : Type 0} where
 
   -- the same after a move
   abbrev pub moved : ObjectsState T W → Move T W → ObjectsState T W
-  moved objects (Create name object) = (create_step objects name object).1
+  moved objects (Create name object changes) = after_changes (create_step objects name object).1 changes
   moved objects (Remove id) = (delete_step objects id).1
   moved objects (Changes changes) = after_changes objects changes
 
@@ -69,9 +69,24 @@ module _ {T W : Type 0} where
   AreAllowed objects (change ∷ changes) =
       IsAllowed objects change × AreAllowed (changed objects change) changes
 
-  -- a move may be made: a create and a removal always, changes where each may
+  -- a change holds no object
+  abbrev pub HoldsNone : Change T W → Type 0
+  HoldsNone (Hold id) = ⊥
+  HoldsNone (Begin wait) = ⊥
+  HoldsNone (Put id object) = Unit {0}
+  HoldsNone (Release id) = Unit {0}
+  HoldsNone (End task) = Unit {0}
+  HoldsNone (Mark test) = Unit {0}
+
+  -- none of the changes does
+  abbrev pub HoldNone : List (Change T W) → Type 0
+  HoldNone [] = Unit {0}
+  HoldNone (change ∷ changes) = HoldsNone change × HoldNone changes
+
+  -- a move may be made: a removal always, changes where each may, and a create where the changes may that hold nothing
   abbrev pub MayMove : ObjectsState T W → Move T W → Type 0
-  MayMove objects (Create name object) = Unit {0}
+  MayMove objects (Create name object changes) =
+      AreAllowed (create_step objects name object).1 changes × HoldNone changes
   MayMove objects (Remove id) = Unit {0}
   MayMove objects (Changes changes) = AreAllowed objects changes
 

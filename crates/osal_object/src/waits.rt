@@ -61,10 +61,7 @@ impl<W> WaitRecord<W> {
     pub fn stands_on(&self, id: OsalId) -> bool
         ensures { result ≡ stands_on id self.now }
     {
-        match self.on.id() {
-            None => false,
-            Some(on) => on == id,
-        }
+        self.on.is_on(id)
     }
 }
 

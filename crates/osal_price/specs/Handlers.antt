@@ -43,4 +43,8 @@ abbrev pub may_wait : ScriptCall → Bool
 may_wait (script.Wait called id wait) = not (is_check wait)
 may_wait (script.QueueGet id n wait) = not (is_check wait)
 may_wait (script.Read id n wait) = not (is_check wait)
+may_wait (script.SocketAccept register id wait) = not (is_check wait)
+may_wait (script.SocketRecv id n wait) = not (is_check wait)
+may_wait (script.SelectOne id mode wait) = not (is_check wait)
+may_wait (script.SelectMulti reads writes wait) = not (is_check wait)
 may_wait other = false

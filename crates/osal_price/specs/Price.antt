@@ -31,6 +31,11 @@ more_cost prices (script.QueuePut id payload) = length payload / 64
 more_cost prices (script.QueueGet id n wait) = wait_cost wait + n / 64
 more_cost prices (script.Read id n wait) = wait_cost wait + n / 64
 more_cost prices (script.Write id payload) = length payload / 64
+more_cost prices (script.SocketAccept register id wait) = wait_cost wait
+more_cost prices (script.SocketSend id payload port) = length payload / 64
+more_cost prices (script.SocketRecv id n wait) = wait_cost wait + n / 64
+more_cost prices (script.SelectOne id mode wait) = wait_cost wait
+more_cost prices (script.SelectMulti reads writes wait) = wait_cost wait
 more_cost prices (script.ConsoleWrite payload) = 2 + length payload / 64
 more_cost prices other = 0
 

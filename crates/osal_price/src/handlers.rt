@@ -39,6 +39,13 @@ pub fn needs_task(call: CallWord) -> bool
         | CallWord::Read
         | CallWord::Write
         | CallWord::Lseek
+        | CallWord::SocketOpen
+        | CallWord::SocketAccept
+        | CallWord::SocketSend
+        | CallWord::SocketRecv
+        | CallWord::SocketShutdown
+        | CallWord::SelectOne
+        | CallWord::SelectMulti
         | CallWord::ConsoleWrite => false,
     }
 }
@@ -57,7 +64,11 @@ pub fn may_wait(call: &ScriptCall) -> bool
     match call {
         ScriptCall::Wait { wait, .. }
         | ScriptCall::QueueGet { wait, .. }
-        | ScriptCall::Read { wait, .. } => !wait.is_check(),
+        | ScriptCall::Read { wait, .. }
+        | ScriptCall::SocketAccept { wait, .. }
+        | ScriptCall::SocketRecv { wait, .. }
+        | ScriptCall::SelectOne { wait, .. }
+        | ScriptCall::SelectMulti { wait, .. } => !wait.is_check(),
         _ => false,
     }
 }

@@ -52,20 +52,23 @@ fn more_cost(prices: &Prices, call: &ScriptCall) -> u64
 {
     match call {
         ScriptCall::Object { word, .. } => object_cost(*word),
-        ScriptCall::Wait { wait, .. } => wait_cost(*wait),
+        ScriptCall::Wait { wait, .. }
+        | ScriptCall::SocketAccept { wait, .. }
+        | ScriptCall::SelectOne { wait, .. }
+        | ScriptCall::SelectMulti { wait, .. } => wait_cost(*wait),
         ScriptCall::Number {
             word: NumberWord::TimebaseTick,
             ..
         } => prices.tick,
         ScriptCall::TaskCreate { body, .. } => prices.body(*body).saturating_add(8),
         ScriptCall::TaskDelay { ms } => wait_cost(Timeout::Ms(*ms)),
-        ScriptCall::QueuePut { payload, .. } | ScriptCall::Write { payload, .. } => {
-            payload.as_slice().len() as u64 / 64
-        }
+        ScriptCall::QueuePut { payload, .. }
+        | ScriptCall::Write { payload, .. }
+        | ScriptCall::SocketSend { payload, .. } => payload.as_slice().len() as u64 / 64,
         ScriptCall::ConsoleWrite { payload } => 2 + payload.as_slice().len() as u64 / 64,
-        ScriptCall::QueueGet { n, wait, .. } | ScriptCall::Read { n, wait, .. } => {
-            wait_cost(*wait) + u64::from(*n / 64)
-        }
+        ScriptCall::QueueGet { n, wait, .. }
+        | ScriptCall::Read { n, wait, .. }
+        | ScriptCall::SocketRecv { n, wait, .. } => wait_cost(*wait) + u64::from(*n / 64),
         ScriptCall::Name { .. }
         | ScriptCall::Value { .. }
         | ScriptCall::Number { .. }
@@ -78,7 +81,9 @@ fn more_cost(prices: &Prices, call: &ScriptCall) -> u64
         | ScriptCall::TimerSet { .. }
         | ScriptCall::Mkfs { .. }
         | ScriptCall::Open { .. }
-        | ScriptCall::Lseek { .. } => 0,
+        | ScriptCall::Lseek { .. }
+        | ScriptCall::SocketOpen { .. }
+        | ScriptCall::SocketShutdown { .. } => 0,
     }
 }
 

@@ -1,6 +1,6 @@
 -- Each good line begins as many bodies as it declares.
-use Rattle.std.proofs.Common.{◌≡◌, ◌+◌, ◌^◌, ◌==◌, ◌&&◌, ℕ, List, [], ◌∷◌, false, Option, Some, None, Result, Ok, Err, length, codes, ltb, leb, bytes_eq, refl, ap, subst, arith}
-use Rattle.std.specs.List.{list_all, list_any}
+use Rattle.std.proofs.Common.{◌≡◌, ◌+◌, ◌^◌, ◌==◌, ◌&&◌, ℕ, List, [], ◌∷◌, false, Option, Some, None, Result, Ok, Err, length, codes, ltb, leb, bytes_eq, option_map, refl, ap, subst, arith}
+use Rattle.std.specs.List.{list_all}
 use Rattle.std.specs.Option.{option_to_list}
 use Rattle.std.proofs.lemmas.Bool.{cond_both}
 use Rattle.std.proofs.lemmas.List.{length_push}
@@ -12,7 +12,7 @@ use Rattle.osal_line.specs.declared.grammar.FirstWord.TheVariants as first
 use Rattle.osal_line.specs.Words.{words_of, is_line_byte}
 use Rattle.osal_line.specs.Values.{is_body_name, number_below}
 use Rattle.osal_call.specs.Signature.{call_word}
-use Rattle.osal_line.specs.Vocabulary.{first_word, call_or_unbuilt, unbuilt_words}
+use Rattle.osal_line.specs.Vocabulary.{first_word}
 use Rattle.osal_line.specs.Declarations.{Declared, declared_by}
 use Rattle.osal_price.specs.Handlers.{is_handler, needs_task}
 use Rattle.osal_line.proofs.Declaring.{by_kind, of_no_kind, none_declared}
@@ -60,18 +60,16 @@ IsOther (Some first.Handler) = ⊥
 IsOther (Some first.Repeat) = Unit {0}
 IsOther (Some first.End) = Unit {0}
 IsOther (Some (first.Call call)) = Unit {0}
-IsOther (Some first.Unbuilt) = Unit {0}
 
-call_is_other : (call : Option CallWord) (word : List ℕ) → IsOther (call_or_unbuilt call word)
-call_is_other (Some call) word = tt
-call_is_other None word =
-    cond_both (list_any (λ other. bytes_eq word other) unbuilt_words) _ _ IsOther (λ e. tt) (λ e. tt)
+call_is_other : (call : Option CallWord) → IsOther (option_map first.Call call)
+call_is_other (Some call) = tt
+call_is_other None = tt
 
 is_other : (word : List ℕ) → bytes_eq word (codes "task") ≡ false → bytes_eq word (codes "handler") ≡ false → IsOther (first_word word)
 is_other word no_task no_handler =
     cond_both (bytes_eq word (codes "osal-app")) _ _ IsOther (λ e. tt) (λ e.
     rw (no_task, no_handler) (cond_both (bytes_eq word (codes "repeat")) _ _ IsOther (λ e. tt) (λ e.
-    cond_both (bytes_eq word (codes "end")) _ _ IsOther (λ e. tt) (λ e. call_is_other (call_word word) word))))
+    cond_both (bytes_eq word (codes "end")) _ _ IsOther (λ e. tt) (λ e. call_is_other (call_word word)))))
 
 other_begun : (later : BodyKind → List ℕ → Option ℕ) (reading : Reading) (number : ℕ) (word : Option FirstWord) (words : List (List ℕ)) → IsOther word → HasBegun (begun reading) (read_by_word later reading number word words)
 other_begun later reading number None words other = tt
@@ -82,7 +80,6 @@ other_begun later reading number (Some first.Repeat) words other = repeat_begun 
 other_begun later reading number (Some first.End) words other = end_begun reading reading.open_body words
 other_begun later reading number (Some (first.Call call)) words other =
     call_begun later reading reading.open_body number call words
-other_begun later reading number (Some first.Unbuilt) words other = tt
 
 -- what a line declares that begins a body of a kind
 abbrev named : BodyKind → List (List ℕ) → Option Declared

@@ -185,7 +185,6 @@ read_body_fits total reading runs None words done =
 word_fits : (total : ℕ) (later : BodyKind → List ℕ → Option ℕ) (reading : Reading) (number : ℕ) (word : Option FirstWord) (words : List (List ℕ)) → IsBetween (begun reading) total (later kind.Task) → FitsBelow total reading → LeavesFit total (read_by_word later reading number word words)
 word_fits total later reading number None words between fits = tt
 word_fits total later reading number (Some first.Header) words between fits = tt
-word_fits total later reading number (Some first.Unbuilt) words between fits = tt
 word_fits total later reading number (Some first.Task) words between fits = read_body_fits total reading kind.Task reading.open_body words fits.done
 word_fits total later reading number (Some first.Handler) words between fits = read_body_fits total reading kind.Handler reading.open_body words fits.done
 word_fits total later reading number (Some first.Repeat) words between fits = repeat_fits total reading reading.open_body words fits.few fits.done fits.current

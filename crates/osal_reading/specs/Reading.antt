@@ -68,7 +68,6 @@ read_call later reading (Some body) number call words =
 -- a line after the header, by its first word
 abbrev pub read_by_word : (BodyKind → List ℕ → Option ℕ) → Reading → ℕ → Option FirstWord → List (List ℕ) → Result Reading FaultKind
 read_by_word later reading number None words = Err fault.Word
-read_by_word later reading number (Some first.Unbuilt) words = Err fault.Unbuilt
 read_by_word later reading number (Some first.Header) words = Err fault.Place
 read_by_word later reading number (Some first.Task) words = read_body reading kind.Task reading.open_body words
 read_by_word later reading number (Some first.Handler) words = read_body reading kind.Handler reading.open_body words

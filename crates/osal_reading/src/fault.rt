@@ -17,8 +17,6 @@ pub enum FaultKind {
     Header,
     /// The first word is none that a line begins with.
     Word,
-    /// The line is not built yet.
-    Unbuilt,
     /// The line may not stand here.
     Place,
     /// The number or the form of the words is wrong.
@@ -41,7 +39,6 @@ impl FaultKind {
             FaultKind::Byte => "byte",
             FaultKind::Header => "header",
             FaultKind::Word => "word",
-            FaultKind::Unbuilt => "unbuilt",
             FaultKind::Place => "place",
             FaultKind::Argument => "argument",
             FaultKind::Many => "many",

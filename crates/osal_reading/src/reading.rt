@@ -48,7 +48,6 @@ fn read_by_word(
 {
     match first {
         None => Err(Stop::Rule(FaultKind::Word)),
-        Some(FirstWord::Unbuilt) => Err(Stop::Rule(FaultKind::Unbuilt)),
         Some(FirstWord::Header) => Err(Stop::Rule(FaultKind::Place)),
         Some(FirstWord::Task) => read_body(alloc, draft, BodyKind::Task, words),
         Some(FirstWord::Handler) => read_body(alloc, draft, BodyKind::Handler, words),

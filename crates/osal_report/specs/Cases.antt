@@ -36,6 +36,8 @@ abbrev pub counts : ScriptCall → Bool
 counts (script.Read id n wait) = true
 counts (script.Write id payload) = true
 counts (script.Lseek id offset whence) = true
+counts (script.SocketSend id payload port) = true
+counts (script.SocketRecv id n wait) = true
 counts other = false
 
 -- a code as a call's line spells it

@@ -22,7 +22,11 @@ fn counts(call: &ScriptCall) -> bool
 {
     matches!(
         call,
-        ScriptCall::Read { .. } | ScriptCall::Write { .. } | ScriptCall::Lseek { .. }
+        ScriptCall::Read { .. }
+            | ScriptCall::Write { .. }
+            | ScriptCall::Lseek { .. }
+            | ScriptCall::SocketSend { .. }
+            | ScriptCall::SocketRecv { .. }
     )
 }
 

@@ -10,9 +10,9 @@ use Rattle.osal_reading.specs.declared.fault.FaultKind.{FaultKind}
 use Rattle.osal_reading.specs.declared.fault.FaultKind.TheVariants as fault
 use Rattle.osal_reading.specs.Draft.{OpenBody, Reading}
 use Rattle.osal_reading.specs.Reading.{read_by_word, is_comment, is_header, read_words, read_line}
-use Rattle.osal_rules.specs.Before.{Before, is_some_and}
+use Rattle.osal_rules.specs.Before.{Before}
 use Rattle.osal_rules.specs.At.{At, placed, is_skipped, later}
-use Rattle.osal_rules.specs.Rules.{is_unbuilt, is_misplaced, is_ill_formed, is_too_many, is_wrong_body, broken}
+use Rattle.osal_rules.specs.Rules.{is_misplaced, is_ill_formed, is_too_many, is_wrong_body, broken}
 use Rattle.osal_rules.specs.After.{after_word, after_line}
 use Rattle.osal_rules.proofs.Bodies.{before_of, leaves, judged, rule_before, task_judged, handler_judged, repeat_judged, end_judged}
 use Rattle.osal_rules.proofs.Calls.{call_judged}
@@ -27,12 +27,11 @@ abbrev words_broken : At → Bool → Bool → Bool → List (List ℕ) → Opti
 words_broken place skipped header named words what =
     cond (not skipped && not header && not named) (Some fault.Header)
     (cond (not skipped && header && is_none what) (Some fault.Word)
-    (cond (not skipped && header && is_some_and is_unbuilt what) (Some fault.Unbuilt)
     (cond (not skipped && header && is_misplaced place.before what) (Some fault.Place)
     (cond (not skipped && header && is_ill_formed place words what) (Some fault.Argument)
     (cond (not skipped && header && is_too_many place words what) (Some fault.Many)
     (cond (not skipped && header && is_wrong_body place words what) (Some fault.Body)
-    None))))))
+    None)))))
 
 -- what stands behind it
 abbrev after_words : At → Bool → Bool → List (List ℕ) → Option FirstWord → Before
@@ -46,7 +45,6 @@ reading_of_parts header bodies current = record { header = header; bodies = bodi
 -- a line that counts, by what it is
 by_word_judged : (header : Bool) (bodies : List ScriptBody) (current : Option OpenBody) (line : List ℕ) (behind : List (List ℕ)) (number : ℕ) (named : Bool) (what : Option FirstWord) (words : List (List ℕ)) → leaves (read_by_word (later (at (reading_of_parts header bodies current) line behind)) (reading_of_parts header bodies current) number what words) ≡ judged (words_broken (at (reading_of_parts header bodies current) line behind) false true named words what) (after_word (at (reading_of_parts header bodies current) line behind) words what)
 by_word_judged header bodies current line behind number named None words = refl
-by_word_judged header bodies current line behind number named (Some first.Unbuilt) words = refl
 by_word_judged header bodies current line behind number named (Some first.Header) words = refl
 by_word_judged header bodies current line behind number named (Some first.Task) words =
     task_judged (reading_of_parts header bodies current) current words

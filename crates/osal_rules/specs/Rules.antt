@@ -29,15 +29,6 @@ breaks_header at = not (is_skipped (words at)) && not at.before.header && not (i
 abbrev pub breaks_word : At → Bool
 breaks_word at = counts at && is_none (what_it_is at)
 
--- whether a first word is of a line that is not built yet
-abbrev pub is_unbuilt : FirstWord → Bool
-is_unbuilt first.Unbuilt = true
-is_unbuilt other = false
-
--- lines with its first word are not built yet
-abbrev pub breaks_unbuilt : At → Bool
-breaks_unbuilt at = counts at && is_some_and is_unbuilt (what_it_is at)
-
 -- whether a line that is this may not stand here
 abbrev pub is_misplaced : Before → Option FirstWord → Bool
 is_misplaced before (Some first.Header) = true
@@ -114,7 +105,6 @@ breaks fault.Long at = breaks_long at
 breaks fault.Byte at = breaks_byte at
 breaks fault.Header at = breaks_header at
 breaks fault.Word at = breaks_word at
-breaks fault.Unbuilt at = breaks_unbuilt at
 breaks fault.Place at = breaks_place at
 breaks fault.Argument at = breaks_argument at
 breaks fault.Many at = breaks_many at
@@ -124,8 +114,7 @@ breaks fault.End at = false
 -- the rules of a line, in the order in which they are told
 abbrev pub rules : List FaultKind
 rules =
-    fault.Long ∷ fault.Byte ∷ fault.Header ∷ fault.Word ∷ fault.Unbuilt ∷ fault.Place ∷ fault.Argument ∷ fault.Many
-    ∷ fault.Body ∷ []
+    fault.Long ∷ fault.Byte ∷ fault.Header ∷ fault.Word ∷ fault.Place ∷ fault.Argument ∷ fault.Many ∷ fault.Body ∷ []
 
 -- the first rule that a line breaks
 abbrev pub broken : At → Option FaultKind

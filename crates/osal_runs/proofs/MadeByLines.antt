@@ -73,7 +73,7 @@ value_made value_word.CountSemCreate text initial = record { line = refl; exit =
 
 number_made : (called : NumberWord) (id amount more : ℕ) → IsMade false false (is_tick called) more (number_call called id amount)
 number_made number_word.TimebaseTick id amount more = record { line = refl; exit = refl; creation = refl; tick = refl; pays = omega arith }
-number_made number_word.TaskSetPriority id amount more = record { line = refl; exit = refl; creation = refl; tick = refl; pays = omega arith }
+number_made _ id amount more = record { line = refl; exit = refl; creation = refl; tick = refl; pays = omega arith }
 
 path_made : (called : PathWord) (text : Text) → IsMade false false false 0 (path_call called text)
 path_made path_word.Unmount text = record { line = refl; exit = refl; creation = refl; tick = refl; pays = omega arith }

@@ -26,7 +26,7 @@ fn cost_of(rt: &impl Abort, alloc: Global, lines: &str) -> Result<u64, Fail> {
 }
 
 /// The lines of a body, and what the application costs.
-const COSTS: [(&str, u64); 9] = [
+const COSTS: [(&str, u64); 11] = [
     ("task_create $t \"t\" w 0 1\ntask_delay 0", 26),
     (
         "repeat 2\nrepeat 2\nrepeat 2\ntask_create $t \"t\" w 0 1\nend\nend\ntask_delay 0\nend",
@@ -60,6 +60,14 @@ const COSTS: [(&str, u64); 9] = [
         "condvar_wait $v check\ncondvar_wait $v pend\ncondvar_wait $v 1\ncondvar_signal $v",
         14,
     ),
+    (
+        "socket_open $s stream\nsocket_bind $s 1\nsocket_listen $s\nsocket_connect $s 1\nsocket_shutdown $s both\nsocket_accept $c $s check\nsocket_accept $c $s pend\nsocket_accept $c $s 1",
+        22,
+    ),
+    (
+        "select_one $s r check\nselect_one $s w pend\nselect_one $s rw 1\nselect_multi $s - check\nselect_multi $s - pend\nselect_multi - $s 1",
+        21,
+    ),
 ];
 
 #[test]
@@ -72,7 +80,7 @@ fn turns_tasks_and_waits_cost(rt: HostRuntime) -> Result<(), Fail> {
 }
 
 /// The same for lines that carry bytes.
-const BYTE_COSTS: [(&str, u64); 5] = [
+const BYTE_COSTS: [(&str, u64); 7] = [
     (
         "queue_put $q \"a\"\nqueue_put $q fill 63 0\nqueue_put $q fill 64 0\nqueue_put $q fill 8192 0",
         140,
@@ -87,6 +95,14 @@ const BYTE_COSTS: [(&str, u64); 5] = [
     ),
     (
         "read $f 63 check\nread $f 64 pend\nread $f 128 1\nread $f 4294967295 check",
+        67_108_880,
+    ),
+    (
+        "socket_send $s \"a\" 1\nsocket_send $s fill 63 0 1\nsocket_send $s fill 64 0 1\nsocket_send $s fill 8192 0 1",
+        140,
+    ),
+    (
+        "socket_recv $s 63 check\nsocket_recv $s 64 pend\nsocket_recv $s 128 1\nsocket_recv $s 4294967295 check",
         67_108_880,
     ),
     (

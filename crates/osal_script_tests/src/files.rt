@@ -28,13 +28,13 @@ fn every_line_is_read(rt: HostRuntime) -> Result<(), Fail> {
 }
 
 /// The application with this line in its body.
-fn app_with(rt: &impl Abort, alloc: Global, line: &str) -> Result<App, Fail> {
+pub(crate) fn app_with(rt: &impl Abort, alloc: Global, line: &str) -> Result<App, Fail> {
     let text = with_lines(alloc, line)?;
     Ok(app_of(rt, alloc, text.as_slice()))
 }
 
 /// The call of the first line.
-fn call_of(app: &App) -> Option<&ScriptCall> {
+pub(crate) fn call_of(app: &App) -> Option<&ScriptCall> {
     let line = line_at(app.main().items(), 0)?;
     Some(&line.call)
 }

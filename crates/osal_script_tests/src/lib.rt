@@ -8,4 +8,6 @@ mod cursor;
 #[cfg(test)]
 mod files;
 #[cfg(test)]
+mod sockets;
+#[cfg(test)]
 mod texts;

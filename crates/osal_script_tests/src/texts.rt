@@ -26,7 +26,13 @@ pub(crate) fn has_bodies(rt: &impl Abort, alloc: Global, text: &[u8], bodies: u3
 }
 
 /// Whether a text is refused for this line, which breaks the rule of that word.
-fn is_refused(rt: &impl Abort, alloc: Global, text: &[u8], line: u32, rule: &str) -> bool {
+pub(crate) fn is_refused(
+    rt: &impl Abort,
+    alloc: Global,
+    text: &[u8],
+    line: u32,
+    rule: &str,
+) -> bool {
     assert!(rt; text.len() < 1000000);
     match parse(alloc, text) {
         Err(ParseFault::Bad(fault)) => fault.line == line && fault.kind.text() == rule,
@@ -695,20 +701,15 @@ fn the_worked_refusals_of_arguments_and_bodies_are_told(rt: HostRuntime) {
     }
 }
 
-/// The header and the end, and what is not built yet, which stands before the place and the form.
-const HEADERS: [(&str, u32, &str); 8] = [
+/// The header and the end.
+const HEADERS: [(&str, u32, &str); 7] = [
     ("", 1, "header"),
     ("\n", 2, "header"),
     ("osal-app 1 1", 1, "header"),
     ("# none yet\ntask main\n", 2, "header"),
     ("osal-app 1\nosal-app 1\n", 2, "place"),
     ("osal-app 1\ntask main\nrepeat 1\nend\n", 5, "end"),
-    ("osal-app 1\nsocket_open\n", 2, "unbuilt"),
-    (
-        "osal-app 1\ntask main\nsocket_recv $s 8 pend\n",
-        3,
-        "unbuilt",
-    ),
+    ("osal-app 1\nsocket_open\n", 2, "place"),
 ];
 
 #[test]

@@ -4,5 +4,6 @@
 mod spelling;
 
 pub use spelling::{
-    push_answer, push_bytes, push_code, push_decimal, push_id, push_quoted, push_signed, quote,
+    hex_digit, push_answer, push_bytes, push_code, push_decimal, push_id, push_quoted, push_signed,
+    quote,
 };

@@ -31,7 +31,8 @@ pub fn push_signed(out: &mut Vec<u8>, number: i64) -> Result<(), OutOfMemory>
     push_bytes(out, buffer.format(number).as_bytes())
 }
 
-fn hex_digit(value: u64) -> u8
+/// A hexadecimal digit in lower case.
+pub fn hex_digit(value: u64) -> u8
     requires { value < 16 }
     ensures { result ≡ digit_of value }
 {

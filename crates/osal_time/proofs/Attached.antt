@@ -192,7 +192,7 @@ module _ (capacity : ℕ) (time : TimeState) (task : ℕ) (now : Moment) (all : 
       λ timebase other was. still_attached time new timebase other (create_keeps time.timers (Some name) timer (Ok reserved) issued other (ap is_some was.there)) was in
       let fresh : (other : ℕ) → IsAttached time id other → reserved.id ≡ other → ⊥ =
       λ other was same. both_ways (is_some (timer_at time reserved.id)) (issued_inactive time.timers.table (Some name) reserved issued) (ap (λ k. is_some (timer_at time k)) same ∙ ap is_some was.there) in
-      after_move new (Create (Some name) timer) (sym (ap (λ r. (created time.timers timer r table).1) issued))
+      after_move new (Create (Some name) timer []) (sym (ap (λ r. (created time.timers timer r table).1) issued))
       (each_put (HasOwnTimers new) time.timebases id longer
       (λ other timebase ne there. still_own time new other timebase (own other timebase there) (still other))
       (own_more time new id active.object (all.each id active is) reserved.id room fresh (still id)

@@ -16,8 +16,20 @@ use osal_idtable::Table;
 fn hold_each<T>(table: &mut Table<T>, on: &Standing)
     ensures { table.new ≡ hold_each table.old on.now }
 {
-    if let Some(id) = on.id() {
-        let _held = table.hold(id);
+    match on.one() {
+        Ok(None) => {}
+        Ok(Some(id)) => {
+            let _held = table.hold(id);
+        }
+        Err(ids) => hold_all(table, ids),
+    }
+}
+
+fn hold_all<T>(table: &mut Table<T>, ids: &[u32])
+    ensures { table.new ≡ hold_each table.old ids.now }
+{
+    for id in ids {
+        let _held = table.hold(OsalId::of_raw(*id));
     }
 }
 
@@ -25,8 +37,20 @@ fn hold_each<T>(table: &mut Table<T>, on: &Standing)
 fn release_each<T>(table: &mut Table<T>, on: &Standing)
     ensures { table.new ≡ release_each table.old on.now }
 {
-    if let Some(id) = on.id() {
-        let _released = table.release(id);
+    match on.one() {
+        Ok(None) => {}
+        Ok(Some(id)) => {
+            let _released = table.release(id);
+        }
+        Err(ids) => release_all(table, ids),
+    }
+}
+
+fn release_all<T>(table: &mut Table<T>, ids: &[u32])
+    ensures { table.new ≡ release_each table.old ids.now }
+{
+    for id in ids {
+        let _released = table.release(OsalId::of_raw(*id));
     }
 }
 

@@ -6,11 +6,12 @@ use Rattle.osal_machine.proofs.whole.Whole.next_deadline.Goals as goal
 
 pub returns : goal.returns
 returns c =
-    next_of_parts c.args.self.now c.moment-now.result c.next_deadline-tasks.result c.next_deadline-queues.result c.next_deadline-count_sems.result c.next_deadline-bin_sems.result c.next_deadline-mutexes.result c.next_deadline-condvars.result _ c.moment-now.ensures
+    next_of_parts c.args.self.now c.moment-now.result c.next_deadline-tasks.result c.next_deadline-queues.result c.next_deadline-count_sems.result c.next_deadline-bin_sems.result c.next_deadline-mutexes.result c.next_deadline-condvars.result c.next_deadline-io.result _ c.moment-now.ensures
     (c.next_deadline-tasks.ensures ∙ ap (λ (s : MachineState). least (deadlines_in c.moment-now.result s.tasks.objects.waits.records)) c.self.view_is)
     (c.next_deadline-queues.ensures ∙ ap (λ (s : MachineState). least (deadlines_in c.moment-now.result s.queues.objects.waits.records)) c.self.view_is)
     (c.next_deadline-count_sems.ensures ∙ ap (λ (s : MachineState). least (deadlines_in c.moment-now.result s.count_sems.objects.waits.records)) c.self.view_is)
     (c.next_deadline-bin_sems.ensures ∙ ap (λ (s : MachineState). least (deadlines_in c.moment-now.result s.bin_sems.objects.waits.records)) c.self.view_is)
     (c.next_deadline-mutexes.ensures ∙ ap (λ (s : MachineState). least (deadlines_in c.moment-now.result s.mutexes.objects.waits.records)) c.self.view_is)
     (c.next_deadline-condvars.ensures ∙ ap (λ (s : MachineState). least (deadlines_in c.moment-now.result s.condvars.objects.waits.records)) c.self.view_is)
+    (c.next_deadline-io.ensures ∙ ap (λ (s : MachineState). least (deadlines_in c.moment-now.result s.io.streams.waits.records)) c.self.view_is)
     (cc)
