@@ -1,0 +1,5 @@
+//! Tests of printed applications.
+#![tactic(auto)]
+
+#[cfg(test)]
+mod printed;
