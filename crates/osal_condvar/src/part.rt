@@ -95,7 +95,9 @@ impl CondvarPart {
         Ok(self.objects.delete(id))
     }
 
-    /// `OS_CondVarGetIdByName`: gives the identifier of a condition variable. It looks at each slot at most.
+    /// `OS_CondVarGetIdByName`: gives the identifier of a condition variable.
+    ///
+    /// It compares as many names as the logarithm of the capacity.
     pub fn condvar_find(
         &mut self,
         _alloc: Global,

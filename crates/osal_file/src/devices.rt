@@ -71,14 +71,18 @@ impl Devices {
         self.table.lookup(id).is_ok()
     }
 
-    /// The identifier of the file system of that name. It looks at each slot at most.
+    /// The identifier of the file system of that name.
+    ///
+    /// It compares as many names as the logarithm of the capacity.
     pub(crate) fn find(&self, name: &Name) -> Option<OsalId>
         ensures { result ≡ find_id self.now.table name.now }
     {
         self.table.find(name)
     }
 
-    /// The identifier that a file system would get under a name. It looks at each slot twice at most.
+    /// The identifier that a file system would get under a name.
+    ///
+    /// It compares as many names as the logarithm of the capacity, and looks at each slot once at most.
     pub(crate) fn peek(&self, name: &Name) -> Result<OsalId, ReserveFault>
         ensures { result ≡ peeked (reserve_step self.now.table (Some name.now)).0 }
     {

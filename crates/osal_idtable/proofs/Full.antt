@@ -1,5 +1,5 @@
 -- The candidates come to each slot, so where none of them is free each slot is taken.
-use Rattle.std.proofs.Common.{◌≡◌, ◌<◌, ◌≤◌, ◌+◌, ◌-◌, ◌*◌, ◌%◌, ℕ, zero, suc, Bool, true, false, cond, find, Option, Some, None, List, Err, nat_lt, refl, sym, ap, subst, ◌∙◌, inl, inr, arith}
+use Rattle.std.proofs.Common.{◌≡◌, ◌<◌, ◌+◌, ◌-◌, ◌%◌, ℕ, zero, suc, Bool, true, false, cond, find, Option, Some, None, List, Err, nat_lt, refl, sym, ap, subst, ◌∙◌, inl, inr, arith}
 use Rattle.std.proofs.Math.Nat.{mod-lt, mod-eq_of_lt, add-mod_right, mod-add-mod, mul-add-mod_self_right}
 use Rattle.std.proofs.lemmas.Bool.{cases_lt, cond_both, not-false}
 use Rattle.std.proofs.lemmas.Bool.Decides.{nat_tests}

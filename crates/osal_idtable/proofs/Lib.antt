@@ -2,6 +2,8 @@ pub mod Course
 pub mod Keyed
 pub mod Placed
 pub mod Lone
+pub mod Order
+pub mod Named
 pub mod Seen
 pub mod Changed
 pub mod Moves
@@ -10,5 +12,4 @@ pub mod Holding
 pub mod Looks
 pub mod Serials
 pub mod WellFormed
-pub mod Written
 pub mod Full

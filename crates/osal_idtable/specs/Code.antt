@@ -1,7 +1,7 @@
 -- How a table is stored, so that it can be the value of a struct.
-use Rattle.std.specs.Prelude.{List, ℕ, Bool, Option, refl}
+use Rattle.std.specs.Prelude.{List, ℕ, Option, refl}
 use Rattle.std.specs.Ordering.{nat_cmp}
-use Rattle.std.specs.Coded.{Coded, code_by, coded×, coded_ℕ, coded_bool, coded_list, coded_option}
+use Rattle.std.specs.Coded.{Coded, code_by, coded×, coded_ℕ, coded_list, coded_option}
 use Rattle.std.specs.FinMap as map
 use Rattle.osal_idtable.specs.Table.{Active, TableState}
 

@@ -12,6 +12,7 @@ pub mod Looks
 pub mod Laws
 pub mod WellFormed
 pub mod Slots
+pub mod Order
 pub mod Sound
 pub mod SlotSteps
 pub mod Lends

@@ -1,10 +1,11 @@
 //! One slot of a table.
-ghost use Rattle.std.specs.Prelude.{◌≡◌, IsTrue, IfSome, is_some};
-ghost use Rattle.osal_idtable.specs.Table.{is_named};
-ghost use Rattle.osal_idtable.specs.Slots.{has_name, active_entry, with_value, with_holds, is_live, live_id, live_named};
+ghost use Rattle.std.specs.Prelude.{◌≡◌, IsTrue, IfSome, is_some, option_copied};
+ghost use Rattle.osal_idtable.specs.Slots.{active_entry, with_value, with_holds, is_live, live_id};
+ghost use Rattle.osal_idtable.specs.Order.{slot_name, name_cmp};
 ghost use Rattle.std.specs.Borrow.{sem};
 
 use osal_base::{Name, OsalId};
+use std::cmp::Ordering;
 
 /// What stands in a slot.
 #[derive(Drop)]
@@ -25,19 +26,29 @@ pub(crate) enum Slot<T> {
 impl<T> Slot<T> {
     ghost use Rattle.osal_idtable.specs.Lends.{lends_value};
 
-    /// Whether the identifier in the slot, active or reserved, has the name.
-    pub(crate) fn has_name(&self, name: &Name) -> bool
-        ensures { result ≡ has_name name.now self.now }
+    /// The name of the identifier in the slot, active or reserved.
+    pub(crate) fn name(&self) -> Option<&Name>
+        ensures { option_copied result ≡ slot_name self.now }
     {
         match self {
-            Slot::Free => false,
-            Slot::Reserved { id: _, name: other } => is_named(other, name),
+            Slot::Free => None,
+            Slot::Reserved { id: _, name } => name.as_ref(),
             Slot::Active {
                 id: _,
-                name: other,
+                name,
                 holds: _,
                 object: _,
-            } => is_named(other, name),
+            } => name.as_ref(),
+        }
+    }
+
+    /// How the name in the slot compares with this one.
+    pub(crate) fn compared(&self, name: &Name) -> Ordering
+        ensures { result ≡ name_cmp (slot_name self.now) name.now }
+    {
+        match self.name() {
+            None => Ordering::Less,
+            Some(other) => other.as_slice().cmp(name.as_slice()),
         }
     }
 
@@ -115,36 +126,6 @@ impl<T> Slot<T> {
             } => Some(*id),
             _ => None,
         }
-    }
-
-    /// The active identifier in the slot, where it has the name.
-    pub(crate) fn live_named(&self, name: &Name) -> Option<OsalId>
-        ensures { result ≡ live_named name.now self.now }
-    {
-        match self {
-            Slot::Active {
-                id,
-                name: other,
-                holds: _,
-                object: _,
-            } => {
-                if is_named(other, name) {
-                    return Some(*id);
-                }
-                None
-            }
-            _ => None,
-        }
-    }
-}
-
-/// Whether an optional name is this one.
-pub(crate) fn is_named(other: &Option<Name>, name: &Name) -> bool
-    ensures { result ≡ is_named other.now name.now }
-{
-    match other {
-        None => false,
-        Some(other) => other.as_slice() == name.as_slice(),
     }
 }
 

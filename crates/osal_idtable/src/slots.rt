@@ -1,30 +1,36 @@
 //! The slots behind a table.
-ghost use Rattle.std.specs.Prelude.{◌≡◌, ◌<◌, ◌≤◌, length, replicate, IfOk, IfSome, IsTrue, option_copied, Ok, Err};
+ghost use Rattle.std.specs.Prelude.{◌≡◌, ◌<◌, ◌≤◌, length, replicate, IfOk, IfSome, IsTrue, false, option_copied, Ok, Err};
 ghost use Rattle.osal_base.specs.Identifier.{type_number};
 ghost use Rattle.osal_base.specs.Limits.{IsCapacity};
 ghost use Rattle.osal_idtable.specs.declared.slot.Slot.TheVariants as slot;
 ghost use Rattle.osal_idtable.specs.Slots.{SlotsState, is_free, slot_at, written, is_used, is_open, next_open};
+ghost use Rattle.osal_idtable.specs.Order.{slot_name};
 ghost use Rattle.osal_idtable.specs.Steps.{peeked};
 ghost use Rattle.osal_idtable.specs.SlotSteps.{slot_reserve};
 
 mod change;
 mod look;
+mod order;
 mod scan;
 
 use crate::place::Place;
 use crate::slot::{Slot, copied};
 use crate::{ReserveFault, Token};
+use order::{enlist, slot_named};
 use osal_base::{Name, ObjType, OsalId, OutOfMemory};
-use scan::{any_named, free_slots};
+use scan::free_slots;
 use std::alloc::Global;
 use std::marker::Model;
 use std::mem;
 
 /// The slots of a table, seen as the list of them.
+///
+/// Beside them `order` has the numbers of the slots with a name, by rising names.
 #[derive(Drop)]
 pub(crate) struct Slots<T> {
     kind: ObjType,
     slots: Vec<Slot<T>>,
+    order: Vec<u32>,
     last: Place,
 }
 
@@ -32,6 +38,8 @@ impl<T> Model for Slots<T> {
     ghost use Rattle.std.specs.Prelude.{◌≤◌, length};
     ghost use Rattle.osal_base.specs.Identifier.{type_number};
     ghost use Rattle.osal_idtable.specs.Slots.{SlotsState};
+    ghost use Rattle.osal_idtable.specs.Order.{Agrees};
+    ghost use Rattle.std.specs.Vec.{vec_capacity};
 
     ghost Value = { SlotsState T };
 
@@ -42,7 +50,8 @@ impl<T> Model for Slots<T> {
       wraps = a.last.wraps;
     } };
 
-    ghost invariant = { λ a. (1 ≤ length a.slots.items) × (length a.slots.items ≤ 1024) };
+    ghost invariant = { λ a. (1 ≤ length a.slots.items) × (length a.slots.items ≤ 1024)
+        × (length a.slots.items ≤ vec_capacity a.order) × Agrees a.slots.items a.order.items };
 }
 
 impl<T> Slots<T> {
@@ -56,10 +65,12 @@ impl<T> Slots<T> {
           wraps = 0;
         }) }
     {
+        let order = Vec::with_capacity(alloc, capacity as usize)?;
         let slots = free_slots(alloc, capacity)?;
         Ok(Slots {
             kind,
             slots,
+            order,
             last: Place {
                 serial: 0,
                 wraps: 0,
@@ -81,8 +92,9 @@ impl<T> Slots<T> {
         &self.slots[id.index(self.capacity()) as usize]
     }
 
-    // Puts another content into the slot of the identifier, and gives the old one.
+    // Puts another content with the same name into the slot of the identifier, and gives the old one.
     fn write(&mut self, id: OsalId, content: Slot<T>) -> Slot<T>
+        requires { slot_name content ≡ slot_name (slot_at self.old id) }
         ensures old { result ≡ slot_at self.old id }
         ensures new { self.new ≡ written self.old id content }
     {
@@ -96,7 +108,9 @@ impl<T> Slots<T> {
     {
         match name {
             None => false,
-            Some(name) => any_named(self.slots.as_slice(), name),
+            Some(name) => {
+                slot_named(self.slots.as_slice(), self.order.as_slice(), name).is_some()
+            }
         }
     }
 
@@ -133,18 +147,20 @@ impl<T> Slots<T> {
             return Err(ReserveFault::NoFreeIds);
         };
         let id = OsalId::compose(self.kind, place.serial);
-        let kept = copied(&name);
-        self.fill(id, Slot::Reserved { id, name: kept });
+        self.issue(id, copied(&name));
         self.last = place;
         Ok(Token::new(id, name))
     }
 
-    // Puts content into a slot that is free.
-    fn fill(&mut self, id: OsalId, content: Slot<T>)
-        requires { IsTrue (is_free (slot_at self.old id)) }
-        ensures { self.new ≡ written self.old id content }
+    // Reserves the identifier under the name, which no slot has, in a slot that is free.
+    fn issue(&mut self, id: OsalId, name: Option<Name>)
+        requires free { IsTrue (is_free (slot_at self.old id)) }
+        requires unused { is_used self.old name ≡ false }
+        ensures { self.new ≡ written self.old id (slot.Reserved id name) }
     {
-        match self.write(id, content) {
+        let at = id.index(self.capacity()) as usize;
+        enlist(self.slots.as_slice(), &mut self.order, at, name.as_ref());
+        match mem::replace(&mut self.slots[at], Slot::Reserved { id, name }) {
             Slot::Free => (),
             Slot::Reserved { id: _, name: _ } => (),
             Slot::Active {

@@ -72,7 +72,8 @@ impl<T> Table<T> {
 
     /// Sets the next identifier aside, under the name where there is one.
     ///
-    /// It looks at each slot once at most for the name, and once for a free slot.
+    /// It compares the name with as many others as the logarithm of the capacity, and looks at each slot once at
+    /// most for a free one. It moves the numbers of the slots whose names come later, and takes no memory.
     pub fn reserve(&mut self, name: Option<Name>) -> Result<Token, ReserveFault>
         ensures step { (result, self.new) ≡ reserve_step self.old name }
         ensures reserved { IfOk result (λ token. map.get self.new.reserved token.id ≡ Some token.name) }
@@ -81,6 +82,8 @@ impl<T> Table<T> {
     }
 
     /// What `reserve` would answer for the name, with the identifier in place of the token.
+    ///
+    /// It compares and looks as `reserve` does.
     pub fn peek(&self, name: Option<&Name>) -> Result<OsalId, ReserveFault>
         ensures { result ≡ peeked (reserve_step self.now (option_copied name.entry)).0 }
     {

@@ -132,7 +132,9 @@ impl MutexPart {
         Ok(self.objects.delete(id))
     }
 
-    /// `OS_MutSemGetIdByName`: gives the identifier of a mutex. It looks at each slot at most.
+    /// `OS_MutSemGetIdByName`: gives the identifier of a mutex.
+    ///
+    /// It compares as many names as the logarithm of the capacity.
     pub fn mut_sem_find(
         &mut self,
         _alloc: Global,

@@ -7,22 +7,22 @@ use Rattle.osal_base.specs.declared.time.Moment.{Moment}
 use Rattle.osal_base.specs.declared.time.Timeout.{Timeout}
 use Rattle.osal_base.specs.Name.{name_fault}
 use Rattle.osal_base.specs.declared.status.Status.TheVariants as status
-use Rattle.osal_base.specs.Reply.{Replied, refusal, is_waits, waits}
+use Rattle.osal_base.specs.Reply.{Replied, refusal, is_waits}
 use Rattle.osal_idtable.specs.Table.{Active, active_at}
 use Rattle.osal_idtable.specs.Steps.{take_out, unheld}
 use Rattle.osal_base.specs.Time.{is_check, deadline_of}
 use Rattle.osal_object.specs.declared.waits.WaitRecord.{WaitRecord}
-use Rattle.osal_idtable.specs.Faults.{answered, name_status, unless, under_name}
+use Rattle.osal_idtable.specs.Faults.{answered, name_status, unless}
 use Rattle.osal_object.specs.Waits.{new_wait, wait_of, wait_fault}
 use Rattle.osal_object.specs.Waiting.{begun, begin_step, end_wait, abandoned, abandon_step}
-use Rattle.osal_object.specs.Objects.{ObjectsState, create_step, held_by_caller, released_by_caller}
+use Rattle.osal_object.specs.Objects.{ObjectsState, held_by_caller, released_by_caller}
 use Rattle.osal_object.specs.Moves.{Change, Begin, End, Create as MakeMove, Remove as RemoveMove, Hold as HoldChange, Release as ReleaseChange, Changes, AreApart, AreAllowed, after_changes, changed}
 use Rattle.osal_object.specs.Outcomes.{Write, Put, Mark, Outcome, Refuse, Named, On, Give, Go, Find, Make, Remove, Leave, Hold, Release, Wait, WaitAfter, Ending, NoWait, WaitsOn, Ends, as_change, written, waited, found_then, carried_out, looks, ended_as, given_up}
 use Rattle.osal_object.proofs.OpenWaits.{WaitsSeen, seen_of, SameWaits, same_waits, IsOpened, IsClosed, released_same, with_opened}
-use Rattle.osal_object.proofs.WaitSteps.{IsWaitStep, Goes, Waits, IsWaitEnd, Refuses, Stays, Ends as Closes, Steps, end_closes, goes, find_answered, create_goes, delete_goes, hold_goes, release_goes, begin_steps, end_closed, name_goes}
+use Rattle.osal_object.proofs.WaitSteps.{Goes, Waits, IsWaitEnd, Refuses, Stays, Ends as Closes, Steps, end_closes, goes, find_answered, create_goes, delete_goes, hold_goes, release_goes, begin_steps, end_closed}
 use Rattle.osal_base.specs.Reply.{is_refusal}
 use Rattle.osal_object.proofs.Moves.{IsMove, stays, changes}
-use Rattle.osal_object.proofs.Refusals.{Leaves, same, fails, name_keeps, create_keeps, delete_keeps, hold_keeps, release_keeps, begin_keeps}
+use Rattle.osal_object.proofs.Refusals.{Leaves, same, fails, create_keeps, delete_keeps, hold_keeps, release_keeps, begin_keeps}
 
 -- the same waits, and then the same again
 same_then : {old new later : WaitsSeen} → SameWaits old new → SameWaits new later → SameWaits old later

@@ -5,6 +5,7 @@ pub mod Wraps
 pub mod ActiveOnce
 pub mod Tested
 pub mod Records
+pub mod Turns
 pub mod Apart
 pub mod HeldEach
 pub mod Balance

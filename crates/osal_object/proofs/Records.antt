@@ -69,7 +69,8 @@ module _ {E : Type 0} where
   pub fewer_kept : (f : E → Bool) (xs : List E) → length (filter f xs) ≤ length xs
   fewer_kept f xs = omega (arith, length-filter_both f (λ x. not (f x)) (λ x. refl) xs)
 
-  all_others : (p : E → Bool) (xs : List E) → list_any p xs ≡ false → filter (λ x. not (p x)) xs ≡ xs
+  -- where none passes, the others are all
+  pub all_others : (p : E → Bool) (xs : List E) → list_any p xs ≡ false → filter (λ x. not (p x)) xs ≡ xs
   all_others p [] none = refl
   all_others p (x ∷ xs) none =
       let parts = or_parts (p x) (list_any p xs) none in rw (parts.0, all_others p xs parts.1) refl

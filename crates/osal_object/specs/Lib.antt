@@ -6,6 +6,9 @@ pub mod Code
 pub mod Standing
 pub mod Tests
 pub mod Waits
+pub mod Held
+pub mod Order
+pub mod Turns
 pub mod Deadlines
 pub mod Objects
 pub mod Waiting

@@ -1,5 +1,5 @@
 -- What a call does to the objects and waits of its part, told as one of a few outcomes.
-use Rattle.std.specs.Prelude.{ℕ, List, [], ◌∷◌, map, Bool, Option, Some, None}
+use Rattle.std.specs.Prelude.{ℕ, List, [], map, Bool, Option, Some, None}
 use Rattle.osal_base.specs.declared.status.Status.{Status}
 use Rattle.osal_base.specs.declared.status.Status.TheVariants as status
 use Rattle.osal_base.specs.declared.time.Moment.{Moment}
@@ -8,7 +8,7 @@ use Rattle.osal_base.specs.Reply.{Replied, refusal, success, gives_bytes, goes_o
 use Rattle.osal_idtable.specs.Table.{Active, active_at}
 use Rattle.osal_idtable.specs.Faults.{under_name}
 use Rattle.osal_object.specs.declared.waits.WaitRecord.{WaitRecord}
-use Rattle.osal_object.specs.Waits.{WaitsState, new_wait, wait_fault, with_wait}
+use Rattle.osal_object.specs.Waits.{new_wait, wait_fault, with_wait}
 use Rattle.osal_object.specs.Objects.{ObjectsState, create_step, delete_step, find_reply, hold_call_step, release_call_step}
 use Rattle.osal_object.specs.Waiting.{hold_each, begin_step, end_wait}
 use Rattle.osal_object.specs.Moves as move

@@ -104,7 +104,9 @@ impl<T, W> Objects<T, W> {
         self.table.name_of(id)
     }
 
-    /// Gives the identifier of the object with that name, or why there is none. It looks at each slot at most.
+    /// Gives the identifier of the object with that name, or why there is none.
+    ///
+    /// It compares the name with as many others as the logarithm of the capacity.
     pub fn find(&self, name: &[u8]) -> Ack
         ensures { replied result [] ≡ find_reply self.now name.now }
     {

@@ -1,12 +1,15 @@
 //! The open waits of a part.
-ghost use Rattle.std.specs.Prelude.{◌≡◌, ◌<◌, ◌≤◌, Bool, length, not, filter, find, map, IfOk, option_copied};
-ghost use Rattle.std.specs.Vec.{vec_capacity};
+ghost use Rattle.std.specs.Prelude.{◌≡◌, ◌<◌, ◌==◌, ℕ, Bool, false, length, find, map, Some, None, IfOk, MatchOption, option_copied};
+ghost use Rattle.std.specs.List.{list_any, slice_get};
 ghost use Rattle.osal_base.specs.Limits.{IsCapacity};
-ghost use Rattle.osal_object.specs.Waits.{no_waits, new_wait, is_of, wait_of, is_due, stands_on, waits_on, wait_fault, with_wait, without_wait, released_if, released_where};
+ghost use Rattle.osal_object.specs.Waits.{no_waits, new_wait, wait_of, is_due, stands_on, waits_on, wait_fault, with_wait, without_wait, released_if, released_where};
+ghost use Rattle.osal_object.specs.Order.{tasks_of};
+ghost use Rattle.osal_object.specs.Turns.{IsTurn};
 ghost use Rattle.osal_object.specs.Tests.{Computes};
 ghost use Rattle.osal_object.specs.Deadlines.{deadline_above, deadlines_in, least, sooner};
 
 use crate::Standing;
+use crate::held::{Held, Place, places};
 use osal_base::{Moment, OsalId, OutOfMemory, Status, Timeout};
 use std::alloc::Global;
 use std::marker::Model;
@@ -66,9 +69,15 @@ impl<W> WaitRecord<W> {
 }
 
 /// The open waits of a part, oldest first: at most one of a task, and so many as there may be tasks.
+///
+/// A look for a task walks over identifiers alone, and the end of a wait moves identifiers and boxes, never another record.
 #[derive(Debug, Drop)]
 pub(crate) struct Waits<W> {
-    records: Vec<WaitRecord<W>>,
+    /// Whose each open wait is.
+    tasks: Vec<OsalId>,
+    open: Vec<Held<W>>,
+    /// For the waits that are to come.
+    free: Vec<Place<W>>,
     capacity: u32,
 }
 
@@ -76,29 +85,41 @@ impl<W> Model for Waits<W> {
     ghost use Rattle.std.specs.Prelude.{◌≤◌, length};
     ghost use Rattle.std.specs.Vec.{vec_capacity};
     ghost use Rattle.osal_object.specs.Waits.{WaitsState};
+    ghost use Rattle.osal_object.specs.Order.{AreOrdered};
 
     ghost Value = { WaitsState W };
 
-    ghost view = { λ a. record { records = a.records.items; capacity = a.capacity } };
+    ghost view = { λ a. record { records = a.open.items; capacity = a.capacity } };
 
-    ghost invariant = { λ a. (length a.records.items ≤ a.capacity) × (a.capacity ≤ 1024) × (a.capacity ≤ vec_capacity a.records) };
+    ghost invariant = { λ a.
+        AreOrdered a.tasks.items a.open.items (length a.free.items) a.capacity × (a.capacity ≤ 1024)
+        × (a.capacity ≤ vec_capacity a.tasks) × (a.capacity ≤ vec_capacity a.open) × (a.capacity ≤ vec_capacity a.free) };
 }
 
 impl<W> Waits<W> {
-    /// No open waits, with room for so many.
-    pub(crate) fn new(alloc: Global, capacity: u32) -> Result<Waits<W>, OutOfMemory>
-        requires { IsCapacity capacity }
-        ensures { IfOk result (λ waits. waits ≡ no_waits capacity) }
+    /// The turn of a task's open wait, the oldest's being 0. It looks at each task at most.
+    pub(crate) fn turn_of(&self, task: OsalId) -> Option<usize>
+        ensures { MatchOption result (wait_of self.now task ≡ None) (IsTurn self.now task) }
     {
-        let records = Vec::with_capacity(alloc, capacity as usize)?;
-        Ok(Waits { records, capacity })
+        turn_among(self.tasks.as_slice(), task)
     }
 
-    /// The open wait of a task. It looks at each wait at most.
+    /// The open wait that has a turn.
+    pub(crate) fn at(&self, turn: usize) -> &WaitRecord<W>
+        requires { turn < length self.now.records }
+        ensures { Some result.now ≡ slice_get self.now.records turn }
+    {
+        self.open[turn].record()
+    }
+
+    /// The open wait of a task. It looks at each task at most.
     pub(crate) fn wait_of(&self, task: OsalId) -> Option<&WaitRecord<W>>
         ensures { option_copied result ≡ wait_of self.now task }
     {
-        self.first_where(|wait| wait.task == task)
+        match self.turn_of(task) {
+            Some(turn) => Some(self.at(turn)),
+            None => None,
+        }
     }
 
     /// The oldest wait that passes a test. It looks at each wait at most.
@@ -110,7 +131,7 @@ impl<W> Waits<W> {
         ensures { (passes : WaitRecord W → Bool) → Computes F.Fn test passes
             → option_copied result ≡ find passes self.now.records }
     {
-        first_passing(self.records.as_slice(), test)
+        first_passing(self.open.as_slice(), test)
     }
 
     /// Why a task may not begin a wait: it waits already, or there is no room for one more.
@@ -120,18 +141,10 @@ impl<W> Waits<W> {
         if self.wait_of(task).is_some() {
             return Some(Status::ErrIncorrectObjState);
         }
-        if self.records.len() < self.capacity as usize {
+        if self.open.len() < self.capacity as usize {
             return None;
         }
         Some(Status::Error)
-    }
-
-    /// Adds a wait, the newest. It takes no memory.
-    pub(crate) fn open(&mut self, wait: WaitRecord<W>)
-        requires { length self.old.records < self.old.capacity }
-        ensures { self.new ≡ with_wait self.old wait }
-    {
-        self.records.push_reserved(wait);
     }
 
     /// How many open waits stand on an object. It looks at each.
@@ -139,8 +152,8 @@ impl<W> Waits<W> {
         ensures { result ≡ waits_on self.now id }
     {
         let mut count = 0;
-        for wait in &self.records {
-            if wait.stands_on(id) {
+        for held in &self.open {
+            if held.record().stands_on(id) {
                 count += 1;
             }
         }
@@ -152,19 +165,49 @@ impl<W> Waits<W> {
         ensures { result ≡ least (deadlines_in now self.now.records) }
     {
         let mut next = None;
-        for wait in &self.records {
-            next = sooner(next, wait.deadline_above(now));
+        for held in &self.open {
+            next = sooner(next, held.record().deadline_above(now));
         }
         next
     }
 }
 
 impl<W: Drop> Waits<W> {
-    /// Takes the wait of a task out, where it has one.
-    pub(crate) fn close(&mut self, task: OsalId)
-        ensures { self.new ≡ without_wait self.old task }
+    /// No open waits, with the memory for so many.
+    pub(crate) fn new(alloc: Global, capacity: u32) -> Result<Waits<W>, OutOfMemory>
+        requires { IsCapacity capacity }
+        ensures { IfOk result (λ waits. waits ≡ no_waits capacity) }
     {
-        take_out(&mut self.records, task);
+        let tasks = Vec::with_capacity(alloc, capacity as usize)?;
+        let open = Vec::with_capacity(alloc, capacity as usize)?;
+        let free = places(alloc, capacity)?;
+        Ok(Waits {
+            tasks,
+            open,
+            free,
+            capacity,
+        })
+    }
+
+    /// Adds a wait, the newest. It takes no memory.
+    pub(crate) fn open(&mut self, wait: WaitRecord<W>)
+        requires fresh { wait_of self.old wait.task ≡ None }
+        requires room { length self.old.records < self.old.capacity }
+        ensures { self.new ≡ with_wait self.old wait }
+    {
+        let place = self.free.pop().unwrap();
+        self.tasks.push_reserved(wait.task);
+        self.open.push_reserved(place.fill(wait));
+    }
+
+    /// Takes the wait out that has a turn. It moves the later turns, and no record.
+    pub(crate) fn close(&mut self, turn: usize)
+        requires { turn < length self.old.records }
+        ensures { (task : ℕ) → IsTurn self.old task turn → self.new ≡ without_wait self.old task }
+    {
+        let _task = self.tasks.remove(turn);
+        let held = self.open.remove(turn);
+        self.free.push_reserved(held.empty());
     }
 
     /// Releases each wait that passes a test.
@@ -173,29 +216,35 @@ impl<W: Drop> Waits<W> {
         ensures { (passes : WaitRecord W → Bool) → Computes F.Fn test passes
             → self.new ≡ released_where self.old passes }
     {
-        release_passing(self.records.as_mut_slice(), test);
+        release_passing(self.open.as_mut_slice(), test);
     }
 }
 
-/// Takes the waits of a task out.
-fn take_out<W: Drop>(waits: &mut Vec<WaitRecord<W>>, task: OsalId)
-    ensures others { waits.new.items ≡ filter (λ wait. not (is_of task wait)) waits.old.items }
-    ensures fewer { length waits.new.items ≤ length waits.old.items }
-    ensures room { vec_capacity waits.new ≡ vec_capacity waits.old }
+/// Where a task stands among some.
+fn turn_among(tasks: &[OsalId], task: OsalId) -> Option<usize>
+    ensures { MatchOption result
+        (list_any (λ other. other == task) tasks.now ≡ false)
+        (λ turn. slice_get tasks.now turn ≡ Some task) }
 {
-    waits.retain(|wait| wait.task != task);
+    for turn in 0..tasks.len() {
+        if tasks[turn] == task {
+            return Some(turn);
+        }
+    }
+    None
 }
 
 /// The first of the waits that passes a test.
 fn first_passing<W, F: Fn(&WaitRecord<W>) -> bool>(
-    waits: &[WaitRecord<W>],
+    waits: &[Held<W>],
     test: F,
 ) -> Option<&WaitRecord<W>>
     requires { F.IsAlwaysCallable test }
     ensures { (passes : WaitRecord W → Bool) → Computes F.Fn test passes
         → option_copied result ≡ find passes waits.now }
 {
-    for wait in waits {
+    for held in waits {
+        let wait = held.record();
         if test(wait) {
             return Some(wait);
         }
@@ -204,14 +253,15 @@ fn first_passing<W, F: Fn(&WaitRecord<W>) -> bool>(
 }
 
 /// Releases each of the waits that passes a test.
-fn release_passing<W, F: Fn(&WaitRecord<W>) -> bool>(waits: &mut [WaitRecord<W>], test: F)
+fn release_passing<W, F: Fn(&WaitRecord<W>) -> bool>(waits: &mut [Held<W>], test: F)
     requires { F.IsAlwaysCallable test }
-    ensures { (passes : WaitRecord W → Bool) → Computes F.Fn test passes
+    ensures tasks { tasks_of waits.new ≡ tasks_of waits.old }
+    ensures passing { (passes : WaitRecord W → Bool) → Computes F.Fn test passes
         → waits.new ≡ map (released_if passes) waits.old }
 {
-    for wait in waits.iter_mut() {
-        if test(wait) {
-            wait.released = true;
+    for held in waits.iter_mut() {
+        if test(held.record()) {
+            held.release();
         }
     }
 }

@@ -44,7 +44,9 @@ impl QueuePart {
         Ok(QueuePart { objects })
     }
 
-    /// `OS_QueueGetIdByName`: gives the identifier of a queue. It looks at each slot at most.
+    /// `OS_QueueGetIdByName`: gives the identifier of a queue.
+    ///
+    /// It compares as many names as the logarithm of the capacity.
     pub fn queue_find(
         &mut self,
         _alloc: Global,

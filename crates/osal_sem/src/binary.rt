@@ -166,7 +166,9 @@ impl BinSemPart {
         Ok(self.objects.delete(id))
     }
 
-    /// `OS_BinSemGetIdByName`: gives the identifier of a semaphore. It looks at each slot at most.
+    /// `OS_BinSemGetIdByName`: gives the identifier of a semaphore.
+    ///
+    /// It compares as many names as the logarithm of the capacity.
     pub fn bin_sem_find(
         &mut self,
         _alloc: Global,

@@ -157,7 +157,9 @@ impl CountSemPart {
         Ok(self.objects.delete(id))
     }
 
-    /// `OS_CountSemGetIdByName`: gives the identifier of a semaphore. It looks at each slot at most.
+    /// `OS_CountSemGetIdByName`: gives the identifier of a semaphore.
+    ///
+    /// It compares as many names as the logarithm of the capacity.
     pub fn count_sem_find(
         &mut self,
         _alloc: Global,

@@ -125,7 +125,9 @@ impl TaskPart {
         Ok(Ack::success())
     }
 
-    /// `OS_TaskGetIdByName`: gives the identifier of a task. It looks at each slot at most.
+    /// `OS_TaskGetIdByName`: gives the identifier of a task.
+    ///
+    /// It compares as many names as the logarithm of the capacity.
     pub fn task_find(
         &mut self,
         _alloc: Global,

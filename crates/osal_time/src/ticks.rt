@@ -135,7 +135,9 @@ impl TimePart {
     /// `OS_TimeBaseGetIdByName`: gives the identifier of a timebase.
     ///
     /// Refused are, in this order, the faults of a name as at `timebase_create`, and a name that no timebase has
-    /// (`OS_ERR_NAME_NOT_FOUND`). It looks at each slot at most.
+    /// (`OS_ERR_NAME_NOT_FOUND`).
+    ///
+    /// It compares as many names as the logarithm of the capacity.
     pub fn timebase_find(
         &mut self,
         _alloc: Global,

@@ -134,7 +134,9 @@ impl TimePart {
     /// `OS_TimerGetIdByName`: gives the identifier of a timer.
     ///
     /// Refused are, in this order, the faults of a name as at `timebase_create`, and a name that no timer has
-    /// (`OS_ERR_NAME_NOT_FOUND`). It looks at each slot at most.
+    /// (`OS_ERR_NAME_NOT_FOUND`).
+    ///
+    /// It compares as many names as the logarithm of the capacity.
     pub fn timer_find(
         &mut self,
         _alloc: Global,

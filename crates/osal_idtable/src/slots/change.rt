@@ -1,14 +1,16 @@
 //! What becomes of an identifier in its slot.
-ghost use Rattle.std.specs.Prelude.{◌≡◌, ◌<◌, IfSome, IsTrue, is_some, Ok, Err};
+ghost use Rattle.std.specs.Prelude.{◌≡◌, ◌<◌, IfSome, IsTrue, is_some, None, Some, Ok, Err};
 ghost use Rattle.osal_idtable.specs.declared.slot.Slot.TheVariants as slot;
-ghost use Rattle.osal_idtable.specs.Slots.{written};
+ghost use Rattle.osal_idtable.specs.Slots.{active_entry, slot_at, written};
 ghost use Rattle.osal_idtable.specs.SlotSteps.{slot_claim, slot_hold, slot_release, reheld, taking_fault, slot_finalize, slot_remove, reserved_under, active_under, slot_put};
 ghost use Rattle.std.specs.Borrow.{sem};
 
 use super::Slots;
-use crate::slot::Slot;
+use super::order::delist;
+use crate::slot::{Slot, copied};
 use crate::{IdFault, Token};
 use osal_base::{Name, OsalId};
+use std::mem;
 
 /// The most holds of one object.
 pub(crate) const HOLD_LIMIT: u32 = 1_001_024;
@@ -21,55 +23,44 @@ impl<T> Slots<T> {
         requires { IsTrue (is_some (reserved_under self.old id)) }
         ensures { self.new ≡ slot_finalize self.old id value }
     {
-        let name = self.free_reserved(id);
-        if let Some(object) = value {
-            let holds = 0;
-            self.fill(
-                id,
-                Slot::Active {
+        let name = self.reserved_name(id);
+        let old = match value {
+            None => self.free(id),
+            Some(object) => {
+                let holds = 0;
+                self.write(
                     id,
-                    name,
-                    holds,
-                    object,
-                },
-            );
+                    Slot::Active {
+                        id,
+                        name,
+                        holds,
+                        object,
+                    },
+                )
+            }
+        };
+        spend(old);
+    }
+
+    // The name of a reserved identifier.
+    fn reserved_name(&self, id: OsalId) -> Option<Name>
+        requires { IsTrue (is_some (reserved_under self.now id)) }
+        ensures { reserved_under self.now id ≡ Some result }
+    {
+        match self.at(id) {
+            Slot::Reserved { id: _, name } => copied(name),
+            _ => unreachable!(),
         }
     }
 
-    // Frees the slot of a reserved identifier, and gives its name.
-    fn free_reserved(&mut self, id: OsalId) -> Option<Name>
-        requires { IsTrue (is_some (reserved_under self.old id)) }
-        ensures name { reserved_under self.old id ≡ Some result }
+    // Frees the slot of an identifier, and gives what stood in it.
+    fn free(&mut self, id: OsalId) -> Slot<T>
+        ensures old { result ≡ slot_at self.old id }
         ensures new { self.new ≡ written self.old id slot.Free }
     {
-        match self.write(id, Slot::Free) {
-            Slot::Reserved { id: _, name } => name,
-            Slot::Free => unreachable!(),
-            Slot::Active {
-                id: _,
-                name: _,
-                holds: _,
-                object: _,
-            } => unreachable!(),
-        }
-    }
-
-    // Puts another content into the slot of an active identifier, and gives its name and object.
-    fn take_active(&mut self, id: OsalId, content: Slot<T>) -> (Option<Name>, T)
-        requires { IsTrue (is_some (active_under self.old id)) }
-        ensures active { IfSome (active_under self.old id) (λ a. (a.name ≡ result.0) × (a.object ≡ result.1)) }
-        ensures new { self.new ≡ written self.old id content }
-    {
-        match self.write(id, content) {
-            Slot::Active {
-                id: _,
-                name,
-                holds: _,
-                object,
-            } => (name, object),
-            Slot::Free => unreachable!(),
-            Slot::Reserved { id: _, name: _ } => unreachable!(),
-        }
+        let at = id.index(self.capacity()) as usize;
+        delist(self.slots.as_slice(), &mut self.order, at);
+        mem::replace(&mut self.slots[at], Slot::Free)
     }
 
     // Why an object may not be taken out.
@@ -102,7 +93,7 @@ impl<T> Slots<T> {
         if let Some(fault) = self.fault_of_taking(id) {
             return Err(fault);
         }
-        let (_, object) = self.take_active(id, Slot::Free);
+        let (_, object) = taken(self.free(id));
         Ok(object)
     }
 
@@ -113,7 +104,7 @@ impl<T> Slots<T> {
             return Err(fault);
         }
         let name = self.name_of(id)?;
-        let (kept, object) = self.take_active(id, Slot::Reserved { id, name });
+        let (kept, object) = taken(self.write(id, Slot::Reserved { id, name }));
         Ok((Token::new(id, kept), object))
     }
 
@@ -167,5 +158,38 @@ impl<T> Slots<T> {
     {
         let at = id.index(self.capacity()) as usize;
         self.slots[at].set_holds(count);
+    }
+}
+
+// Takes apart what stood in the slot of a reserved identifier.
+fn spend<T>(content: Slot<T>)
+    requires { active_entry content ≡ None }
+{
+    match content {
+        Slot::Free => (),
+        Slot::Reserved { id: _, name: _ } => (),
+        Slot::Active {
+            id: _,
+            name: _,
+            holds: _,
+            object: _,
+        } => unreachable!(),
+    }
+}
+
+// The name and the object that stood in the slot of an active identifier.
+fn taken<T>(content: Slot<T>) -> (Option<Name>, T)
+    requires { IsTrue (is_some (active_entry content)) }
+    ensures { IfSome (active_entry content) (λ e. (e.1.name ≡ result.0) × (e.1.object ≡ result.1)) }
+{
+    match content {
+        Slot::Active {
+            id: _,
+            name,
+            holds: _,
+            object,
+        } => (name, object),
+        Slot::Free => unreachable!(),
+        Slot::Reserved { id: _, name: _ } => unreachable!(),
     }
 }

@@ -6,7 +6,8 @@ ghost use Rattle.osal_idtable.specs.Looks.{slot_after, name_under};
 ghost use Rattle.osal_idtable.specs.SlotSteps.{slot_lookup, reserved_under, active_under};
 
 use super::Slots;
-use super::scan::{count_live, first_live, first_named};
+use super::order::slot_named;
+use super::scan::{count_live, first_live};
 use crate::IdFault;
 use crate::slot::{Slot, copied};
 use osal_base::{Name, OsalId};
@@ -100,7 +101,10 @@ impl<T> Slots<T> {
     pub(crate) fn find(&self, name: &Name) -> Option<OsalId>
         ensures { result ≡ first_named name.now self.now.slots }
     {
-        first_named(self.slots.as_slice(), name)
+        match slot_named(self.slots.as_slice(), self.order.as_slice(), name) {
+            None => None,
+            Some(at) => self.slots[at].live_id(),
+        }
     }
 
     /// The active identifier in the least slot above the one of `id`, or of all for the undefined one.

@@ -1,11 +1,10 @@
 //! Looks over all slots.
 ghost use Rattle.std.specs.Prelude.{◌≡◌, ◌<◌, ◌≤◌, length, replicate, IfOk, MatchOption, count_by, Ok};
-ghost use Rattle.std.specs.List.{list_any};
 ghost use Rattle.osal_idtable.specs.declared.slot.Slot.TheVariants as slot;
-ghost use Rattle.osal_idtable.specs.Slots.{is_live, first_named, NoneLive, FirstLive, has_name};
+ghost use Rattle.osal_idtable.specs.Slots.{is_live, NoneLive, FirstLive};
 
 use crate::slot::Slot;
-use osal_base::{Name, OsalId, OutOfMemory};
+use osal_base::{OsalId, OutOfMemory};
 use std::alloc::Global;
 
 pub(crate) fn free_slots<T>(alloc: Global, capacity: u32) -> Result<Vec<Slot<T>>, OutOfMemory>
@@ -18,29 +17,11 @@ pub(crate) fn free_slots<T>(alloc: Global, capacity: u32) -> Result<Vec<Slot<T>>
     Ok(slots)
 }
 
-pub(crate) fn any_named<T>(slots: &[Slot<T>], name: &Name) -> bool
-    ensures { result ≡ list_any (has_name name.now) slots.now }
-{
-    slots.iter().any(|slot| slot.has_name(name))
-}
-
 pub(crate) fn count_live<T>(slots: &[Slot<T>]) -> u32
     requires { length slots.now ≤ 1024 }
     ensures { result ≡ count_by is_live slots.now }
 {
     slots.iter().filter(|slot| slot.is_live()).count() as u32
-}
-
-pub(crate) fn first_named<T>(slots: &[Slot<T>], name: &Name) -> Option<OsalId>
-    ensures { result ≡ first_named name.now slots.now }
-{
-    for slot in slots {
-        let found = slot.live_named(name);
-        if found.is_some() {
-            return found;
-        }
-    }
-    None
 }
 
 pub(crate) fn first_live<T>(slots: &[Slot<T>], start: usize) -> Option<OsalId>

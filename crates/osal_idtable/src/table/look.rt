@@ -11,7 +11,7 @@ use osal_base::{Name, OsalId};
 impl<T> Table<T> {
     /// The active identifier with the name: a reserved name is taken and is not found.
     ///
-    /// It looks at each slot once at most.
+    /// It compares the name with as many others as the logarithm of the capacity, whatever names there are.
     pub fn find(&self, name: &Name) -> Option<OsalId>
         ensures { result ≡ find_id self.now name.now }
     {

@@ -13,7 +13,7 @@ impl<T, W> Objects<T, W> {
 
     /// What `create` would answer under the name, so that an object is only made where it has a place.
     ///
-    /// It looks at each slot twice at most.
+    /// It compares the name with as many others as the logarithm of the capacity, and looks at each slot once at most.
     pub fn peek(&self, name: &Name) -> Result<OsalId, ReserveFault>
         ensures { result ≡ peeked (reserve_step self.now.table (Some name.now)).0 }
     {

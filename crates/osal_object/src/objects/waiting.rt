@@ -96,9 +96,10 @@ impl<T, W: Drop> Objects<T, W> {
     pub fn end(&mut self, task: OsalId)
         ensures { self.new ≡ end_wait self.old task }
     {
-        if let Some(wait) = self.waits.wait_of(task) {
+        if let Some(turn) = self.waits.turn_of(task) {
+            let wait = self.waits.at(turn);
             release_each(&mut self.table, &wait.on);
-            self.waits.close(task);
+            self.waits.close(turn);
         }
     }
 
