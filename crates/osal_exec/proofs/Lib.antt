@@ -1,4 +1,5 @@
 pub mod Slots
+pub mod Empty
 pub mod Kept
 pub mod Allowed
 pub mod Begun

@@ -1,5 +1,5 @@
 -- The tasks whose scripts a driver runs, each in the slot of its identifier.
-use Rattle.std.specs.Prelude.{◌≡◌, ◌<◌, ◌^◌, List, [], ◌∷◌, ℕ, Bool, true, false, not, Option, Some, None, length, slice_index_or, slice_set}
+use Rattle.std.specs.Prelude.{◌≡◌, ◌<◌, ◌≤◌, ◌^◌, List, [], ◌∷◌, ℕ, Bool, true, false, not, Option, Some, None, length, slice_index_or, slice_set}
 use Rattle.osal_base.specs.Identifier.{slot_of}
 use Rattle.osal_base.specs.Limits.{version1}
 use Rattle.osal_task.specs.Tasks.{goes}
@@ -21,6 +21,10 @@ pub record Running : Type 0 where
 -- the runner in a slot, if there is one
 abbrev pub runner_at : List (Option Running) → ℕ → Option Running
 runner_at runners slot = slice_index_or runners slot None
+
+-- each slot from a number on is empty
+abbrev pub EmptyFrom : List (Option Running) → ℕ → Type 0
+EmptyFrom runners used = (slot : ℕ) → used ≤ slot → runner_at runners slot ≡ None
 
 -- the slot of a task
 abbrev pub slot_of_task : ℕ → ℕ

@@ -1,9 +1,9 @@
 //! The tasks whose scripts run, each in the slot of its identifier.
-ghost use Rattle.std.specs.Prelude.{◌≡◌, ◌<◌, ◌^◌, None, Some, length, replicate, slice_set, option_copied, IfOk};
+ghost use Rattle.std.specs.Prelude.{◌≡◌, ◌<◌, ◌≤◌, ◌^◌, None, Some, length, replicate, slice_set, option_copied, IfOk};
 ghost use Rattle.std.specs.List.{AllByRecursion};
 ghost use Rattle.osal_script.specs.Script.{after_entry};
 ghost use Rattle.osal_runs.specs.Segments.{begun};
-ghost use Rattle.osal_exec.specs.Running.{runner_at, slot_of_task, gone_on, with_entry, with_begun, IsIdentifier};
+ghost use Rattle.osal_exec.specs.Running.{runner_at, slot_of_task, gone_on, with_entry, with_begun, EmptyFrom, IsIdentifier};
 
 use osal_base::{Answer, OsalId, OutOfMemory};
 use osal_call::{Call, Entry};
@@ -12,7 +12,7 @@ use std::alloc::Global;
 use std::marker::Model;
 
 /// How many slots there are for tasks.
-pub(crate) const SLOTS: u32 = 64;
+const SLOTS: u32 = 64;
 
 /// A task, and how far its script has come.
 #[derive(Drop)]
@@ -64,20 +64,24 @@ fn follow_in(slot: &mut Option<Runner>, made: &Entry)
 }
 
 /// The tasks whose scripts run, each in the slot of its identifier, until another task gets the slot.
+///
+/// They know how many slots, from the first, may have a runner, so that a walk over them ends there.
 #[derive(Drop)]
 pub(crate) struct Runners<'a> {
     slots: Vec<Option<Runner<'a>>>,
+    /// Each slot from there on is empty.
+    used: u32,
 }
 
 impl<'a> Model for Runners<'a> {
-    ghost use Rattle.std.specs.Prelude.{◌≡◌, List, Option, length};
-    ghost use Rattle.osal_exec.specs.Running.{Running};
+    ghost use Rattle.std.specs.Prelude.{◌≡◌, ◌≤◌, List, Option, length};
+    ghost use Rattle.osal_exec.specs.Running.{Running, EmptyFrom};
 
     ghost Value = { List (Option Running) };
 
     ghost view = { λ a. a.slots.items };
 
-    ghost invariant = { λ a. length a.slots.items ≡ 64 };
+    ghost invariant = { λ a. (length a.slots.items ≡ 64) × (a.used ≤ 64) × EmptyFrom a.slots.items a.used };
 }
 
 impl<'a> Runners<'a> {
@@ -89,7 +93,15 @@ impl<'a> Runners<'a> {
         for _i in 0..SLOTS {
             slots.push_reserved(None);
         }
-        Ok(Runners { slots })
+        Ok(Runners { slots, used: 0 })
+    }
+
+    /// How many slots, from the first, may have a runner.
+    pub(crate) fn used(&self) -> u32
+        ensures within { result ≤ 64 }
+        ensures rest { EmptyFrom self.now result }
+    {
+        self.used
     }
 
     /// The runner in a slot, if there is one.
@@ -112,7 +124,9 @@ impl<'a> Runners<'a> {
     fn put(&mut self, id: OsalId, cursor: Cursor<'a>)
         ensures { self.new ≡ slice_set self.old (slot_of_task id) (Some (record { id = id; script = cursor.entry })) }
     {
-        self.slots[id.index(SLOTS) as usize] = Some(Runner { id, cursor });
+        let slot = id.index(SLOTS);
+        self.slots[slot as usize] = Some(Runner { id, cursor });
+        self.used = self.used.max(slot + 1);
     }
 
     /// Takes in the task that an entry begins, if it begins one.

@@ -16,7 +16,7 @@ ghost use Rattle.osal_exec.specs.Telling.{Tells, TellsPrefix, is_sink_halt};
 ghost use Rattle.osal_exec.specs.Driving.{MakesEntry, drive_of, IsDriven, AddsEntry, IsSteady, MayCreate, Takes, Since, HasPlayed, HasTurned};
 
 use crate::Gate;
-use crate::runners::{Runners, SLOTS};
+use crate::runners::Runners;
 use osal_base::{Bytes, Limits, OsalId, OutOfMemory, Reply, Room};
 use osal_call::{Call, Entry, Journal};
 use osal_machine::Whole;
@@ -250,7 +250,8 @@ impl<'a> Stage<'a> {
         ensures memory { OnErr result (IsPartRun app.now journal.new.entries) }
         ensures undrained { drained journal.new.entries ≡ drained journal.old.entries }
     {
-        for slot in 0..SLOTS {
+        let used = self.runners.used();
+        for slot in 0..used {
             if let Some((line, part)) = self.lost(slot) {
                 self.leave(alloc, app, gate, journal, slot, line, part)?;
             }
@@ -258,12 +259,13 @@ impl<'a> Stage<'a> {
         Ok(())
     }
 
-    /// Which tasks go on at once, by their slots.
+    /// Which tasks go on at once, by their slots. Only the slots that have had a task are asked.
     fn members(&self) -> [bool; 64]
         ensures { AreMembers self.now.whole self.now.runners result 64 }
     {
         let mut members = [false; 64];
-        for slot in 0..SLOTS {
+        let used = self.runners.used();
+        for slot in 0..used {
             members[slot as usize] = self.can_run(slot);
         }
         members
@@ -287,7 +289,8 @@ impl<'a> Stage<'a> {
         ensures undrained { drained journal.new.entries ≡ drained journal.old.entries }
     {
         let members = self.members();
-        for slot in 0..SLOTS {
+        let used = self.runners.used();
+        for slot in 0..used {
             if members[slot as usize] {
                 self.run(alloc, app, gate, journal, slot)?;
             }
