@@ -18,6 +18,27 @@ const TIMEBASE: u32 = 0x0008_0001;
 
 const TIMER: u32 = 0x0009_0001;
 
+/// What is asked of a machine at its start.
+#[derive(Clone, Copy, Debug, PartialEq, Eq)]
+enum Question {
+    Absent,
+    Console,
+    Time,
+    Timer,
+}
+
+// Asks a machine at its start. It is owned here alone, as its drop is long, and lent to what asks.
+fn on_a_machine<R: Abort + AllocGlobal>(rt: &R, question: Question) -> Result<(), Fail> {
+    let mut whole = Whole::open(rt.alloc(), &Limits::version1())?;
+    match question {
+        Question::Absent => refuse_all(rt, &mut whole),
+        Question::Console => ask_console(rt, &mut whole),
+        Question::Time => go_on(rt, &mut whole),
+        Question::Timer => tick(rt, &mut whole),
+    }
+    Ok(())
+}
+
 // Whether the whole machine answers so to a call of the task A at the start.
 fn answers(alloc: Global, whole: &mut Whole, call: Call, want: Answer) -> bool {
     let mut room = Room::new();
@@ -89,7 +110,7 @@ fn refuses_the_hold(alloc: Global, whole: &mut Whole, raw: u32) -> bool {
     answers(alloc, whole, Call::Hold { id }, refused(ErrInvalidId)) && !whole.active(id)
 }
 
-// A machine without objects refuses each end of a wait and each hold. It is lent, as its drop is long.
+// A machine without objects refuses each end of a wait and each hold.
 fn refuse_all<R: Abort + AllocGlobal>(rt: &R, whole: &mut Whole) {
     for part in [1, 2, 3, 4, 5, 6, 7, 8, 9] {
         assert!(rt; refuses_the_end(rt.alloc(), whole, part), "part {part}");
@@ -107,7 +128,7 @@ fn refuse_all<R: Abort + AllocGlobal>(rt: &R, whole: &mut Whole) {
 
 const CONSOLE: u32 = 0x000c_0001;
 
-// The console is active, is held and released, and gives 1 to 1,024 bytes. The machine is lent, as its drop is long.
+// The console is active, is held and released, and gives 1 to 1,024 bytes.
 fn ask_console<R: Abort + AllocGlobal>(rt: &R, whole: &mut Whole) {
     let id = OsalId::of_raw(CONSOLE);
     assert!(rt; whole.active(id));
@@ -124,16 +145,12 @@ fn ask_console<R: Abort + AllocGlobal>(rt: &R, whole: &mut Whole) {
 
 #[test]
 fn the_console_is_there_from_the_start(rt: HostRuntime) -> Result<(), Fail> {
-    let mut whole = Whole::open(rt.alloc(), &Limits::version1())?;
-    ask_console(&rt, &mut whole);
-    Ok(())
+    on_a_machine(&rt, Question::Console)
 }
 
 #[test]
 fn what_is_not_there_has_no_objects_and_no_waits(rt: HostRuntime) -> Result<(), Fail> {
-    let mut whole = Whole::open(rt.alloc(), &Limits::version1())?;
-    refuse_all(&rt, &mut whole);
-    Ok(())
+    on_a_machine(&rt, Question::Absent)
 }
 
 // Time goes on to later moments, and to no other.
@@ -156,9 +173,7 @@ fn go_on<R: Abort + AllocGlobal>(rt: &R, whole: &mut Whole) {
 
 #[test]
 fn time_goes_on_to_a_later_moment_alone(rt: HostRuntime) -> Result<(), Fail> {
-    let mut whole = Whole::open(rt.alloc(), &Limits::version1())?;
-    go_on(&rt, &mut whole);
-    Ok(())
+    on_a_machine(&rt, Question::Time)
 }
 
 fn name_of(alloc: Global, bytes: &[u8]) -> Bytes {
@@ -237,9 +252,7 @@ fn tick<R: Abort + AllocGlobal>(rt: &R, whole: &mut Whole) {
 
 #[test]
 fn a_timer_fires_and_is_deleted(rt: HostRuntime) -> Result<(), Fail> {
-    let mut whole = Whole::open(rt.alloc(), &Limits::version1())?;
-    tick(&rt, &mut whole);
-    Ok(())
+    on_a_machine(&rt, Question::Timer)
 }
 
 // Whether a part of any kind has not the task A, which does not go on there.
@@ -247,17 +260,22 @@ fn is_without_task<P: Part>(part: &P) -> bool {
     !part.active(OsalId::of_raw(A)) && !part.goes(OsalId::of_raw(A))
 }
 
+// Whether a part that is given up has not the task A.
+fn starts_without_task(part: AnyPart) -> bool {
+    is_without_task(&part)
+}
+
 #[test]
 fn a_part_of_time_alone_is_seen_as_the_machine_is(rt: HostRuntime) -> Result<(), Fail> {
-    let time = AnyPart::Time(TimePart::open(rt.alloc(), &Limits::version1())?);
-    assert!(rt; is_without_task(&time));
+    let time = TimePart::open(rt.alloc(), &Limits::version1())?;
+    assert!(rt; starts_without_task(AnyPart::Time(time)));
     Ok(())
 }
 
 #[test]
 fn a_part_of_tasks_alone_is_seen_as_the_machine_is(rt: HostRuntime) -> Result<(), Fail> {
-    let tasks = AnyPart::Task(TaskPart::open(rt.alloc(), &Limits::version1())?);
-    assert!(rt; is_without_task(&tasks));
+    let tasks = TaskPart::open(rt.alloc(), &Limits::version1())?;
+    assert!(rt; starts_without_task(AnyPart::Task(tasks)));
     Ok(())
 }
 
