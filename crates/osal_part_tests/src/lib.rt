@@ -2,14 +2,4 @@
 #![tactic(auto)]
 
 #[cfg(test)]
-mod condvars;
-#[cfg(test)]
-mod mutexes;
-#[cfg(test)]
-mod queues;
-#[cfg(test)]
-mod semaphores;
-#[cfg(test)]
-mod tasks;
-#[cfg(test)]
-mod timers;
+mod tests;

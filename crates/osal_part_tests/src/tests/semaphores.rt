@@ -1,0 +1,4 @@
+//! What the parts of semaphores answer, call by call.
+
+mod binary;
+mod counting;
