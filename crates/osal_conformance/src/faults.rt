@@ -1,23 +1,11 @@
 //! Files that are missing or too large, and a source or a sink that fails.
 
-use crate::fixture::{Faults, NO_FAULTS, has_output, makes_no_call, run_words};
+use crate::fixture::{
+    FIRST_PATH, FIRST_PATH_REPORT, Faults, NO_FAULTS, has_output, makes_no_call, run_words,
+};
 use std::alloc::Global;
 use std::process::Abort;
 use std::test::Fail;
-
-const APP: &str = "osal-app 1
-task main
-bin_sem_create $s \"s\" 1 -> OS_SUCCESS 0x00040001
-bin_sem_take $s check -> OS_SUCCESS
-end
-";
-
-const REPORT: &str = "[BEGIN] 0x00010001 main
-[ PASS] 1 line 3 bin_sem_create OS_SUCCESS 0x00040001
-[ PASS] 2 line 4 bin_sem_take OS_SUCCESS
-[  END] 0x00010001 main DONE PASS 2 FAIL 0
-[TOTAL] TASKS 1 PASS 2 FAIL 0
-";
 
 #[test]
 fn a_file_that_is_not_there_is_told(rt: HostRuntime) -> Result<(), Fail> {
@@ -26,7 +14,7 @@ fn a_file_that_is_not_there_is_told(rt: HostRuntime) -> Result<(), Fail> {
         &rt,
         rt.alloc(),
         &["other"],
-        APP.as_bytes(),
+        FIRST_PATH.as_bytes(),
         NO_FAULTS,
         2,
         output,
@@ -37,7 +25,7 @@ fn a_file_that_is_not_there_is_told(rt: HostRuntime) -> Result<(), Fail> {
 
 /// The application with empty lines behind it, of so many bytes.
 fn app_of_length(alloc: Global, length: usize) -> Result<Vec<u8>, Fail> {
-    let mut text = Vec::from_slice(alloc, APP.as_bytes())?;
+    let mut text = Vec::from_slice(alloc, FIRST_PATH.as_bytes())?;
     for _ in text.len()..length {
         text.push(b'\n')?;
     }
@@ -82,7 +70,15 @@ fn each_failing_call_of_the_source_ends_the_run(rt: HostRuntime) -> Result<(), F
             shelf_call: Some(call),
             ..NO_FAULTS
         };
-        let ends = makes_no_call(&rt, rt.alloc(), &["app"], APP.as_bytes(), faults, 4, "")?;
+        let ends = makes_no_call(
+            &rt,
+            rt.alloc(),
+            &["app"],
+            FIRST_PATH.as_bytes(),
+            faults,
+            4,
+            "",
+        )?;
         assert!(rt; ends, "call {call}");
     }
     Ok(())
@@ -95,14 +91,18 @@ fn leaves_prefix(
     faults: Faults,
     most: usize,
 ) -> Result<bool, Fail> {
-    let ran = run_words(rt, alloc, &["app"], APP.as_bytes(), faults)?;
+    let ran = run_words(rt, alloc, &["app"], FIRST_PATH.as_bytes(), faults)?;
     let written = ran.written.as_slice();
-    Ok(ran.status == 5 && written.len() <= most && REPORT.as_bytes().starts_with(written))
+    Ok(
+        ran.status == 5
+            && written.len() <= most
+            && FIRST_PATH_REPORT.as_bytes().starts_with(written),
+    )
 }
 
 /// Whether a wrong command through a sink that fails has that status, and makes no call.
 fn leaves_nothing(rt: &impl Abort, alloc: Global, faults: Faults) -> Result<bool, Fail> {
-    let ran = run_words(rt, alloc, &["-x"], APP.as_bytes(), faults)?;
+    let ran = run_words(rt, alloc, &["-x"], FIRST_PATH.as_bytes(), faults)?;
     Ok(ran.status == 5 && ran.journal.len() == 0)
 }
 
@@ -123,7 +123,7 @@ fn a_failing_sink_leaves_a_prefix(rt: HostRuntime) -> Result<(), Fail> {
 
 #[test]
 fn a_sink_that_does_not_fail_gets_the_report(rt: HostRuntime) -> Result<(), Fail> {
-    let same = has_output(&rt, rt.alloc(), APP, 0, REPORT)?;
+    let same = has_output(&rt, rt.alloc(), FIRST_PATH, 0, FIRST_PATH_REPORT)?;
     assert!(rt; same);
     Ok(())
 }

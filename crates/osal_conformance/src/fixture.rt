@@ -9,6 +9,30 @@ use std::alloc::Global;
 use std::process::Abort;
 use std::test::Fail;
 
+/// An application whose task creates a semaphore and takes it.
+pub const FIRST_PATH: &str = "osal-app 1
+task main
+bin_sem_create $s \"s\" 1 -> OS_SUCCESS 0x00040001
+bin_sem_take $s check -> OS_SUCCESS
+end
+";
+
+/// Its report.
+pub const FIRST_PATH_REPORT: &str = "[BEGIN] 0x00010001 main
+[ PASS] 1 line 3 bin_sem_create OS_SUCCESS 0x00040001
+[ PASS] 2 line 4 bin_sem_take OS_SUCCESS
+[  END] 0x00010001 main DONE PASS 2 FAIL 0
+[TOTAL] TASKS 1 PASS 2 FAIL 0
+";
+
+/// An application whose task waits until it is due.
+pub const TIMEOUT: &str = "osal-app 1
+task main
+queue_create $q \"q\" 2 4
+queue_get $q 4 50 -> OS_QUEUE_TIMEOUT
+end
+";
+
 /// The calls that fail, and the most bytes of one.
 #[derive(Clone, Copy)]
 pub struct Faults {
@@ -133,18 +157,6 @@ pub fn makes_no_call(
     let ran = run_words(rt, alloc, words, text, faults)?;
     let same = ran.status == status && ran.written.as_slice() == output.as_bytes();
     Ok(same && ran.journal.len() == 0)
-}
-
-/// An application: what it shows, its text, its status and its output.
-pub type Row = (&'static str, &'static str, u8, &'static str);
-
-/// Each application has its status and its output.
-pub fn follow(rt: &impl Abort, alloc: Global, rows: &[Row]) -> Result<(), Fail> {
-    for (name, text, status, output) in rows {
-        let same = has_output(rt, alloc, *text, *status, *output)?;
-        assert!(rt; same, "{name}");
-    }
-    Ok(())
 }
 
 /// An entry: the name of its call, its caller, its task, its moment, its answer and its number.

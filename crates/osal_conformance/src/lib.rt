@@ -4,24 +4,14 @@
 #[cfg(test)]
 mod faults;
 #[cfg(test)]
-mod files;
-#[cfg(test)]
 mod fixture;
 #[cfg(test)]
 mod flight;
 #[cfg(test)]
-mod locks;
+mod journals;
 #[cfg(test)]
 mod meeting;
 #[cfg(test)]
-mod queues;
-#[cfg(test)]
-mod rows;
-#[cfg(test)]
-mod semaphores;
-#[cfg(test)]
-mod several;
-#[cfg(test)]
-mod timers;
+mod segments;
 #[cfg(test)]
 mod words;

@@ -1,23 +1,11 @@
 //! The forms of the words, and the journal behind the report.
 
-use crate::fixture::{NO_FAULTS, run_words};
+use crate::fixture::{FIRST_PATH, FIRST_PATH_REPORT, NO_FAULTS, TIMEOUT, makes_no_call, run_words};
 use std::alloc::Global;
 use std::process::Abort;
 use std::test::Fail;
 
-const FIRST_PATH: &str = "osal-app 1
-task main
-bin_sem_create $s \"s\" 1 -> OS_SUCCESS 0x00040001
-bin_sem_take $s check -> OS_SUCCESS
-end
-";
-
-const FIRST_OUTPUT: &str = "[BEGIN] 0x00010001 main
-[ PASS] 1 line 3 bin_sem_create OS_SUCCESS 0x00040001
-[ PASS] 2 line 4 bin_sem_take OS_SUCCESS
-[  END] 0x00010001 main DONE PASS 2 FAIL 0
-[TOTAL] TASKS 1 PASS 2 FAIL 0
-osal-journal 1
+const FIRST_JOURNAL: &str = "osal-journal 1
 0 0 0x00000000 0 task_create \"main\" 0 0 0 => 0 65537 \"\"
 1 2 0x00010001 0 checkpoint => go 0 \"\"
 2 2 0x00010001 0 bin_sem_create \"s\" 1 => 0 262145 \"\"
@@ -27,18 +15,13 @@ osal-journal 1
 6 2 0x00010001 0 task_exit => 0 0 \"\"
 ";
 
-const TIMEOUT: &str = "osal-app 1
-task main
-queue_create $q \"q\" 2 4
-queue_get $q 4 50 -> OS_QUEUE_TIMEOUT
-end
-";
-
-const TIMEOUT_OUTPUT: &str = "[BEGIN] 0x00010001 main
+const TIMEOUT_REPORT: &str = "[BEGIN] 0x00010001 main
 [ PASS] 1 line 4 queue_get OS_QUEUE_TIMEOUT
 [  END] 0x00010001 main DONE PASS 1 FAIL 0
 [TOTAL] TASKS 1 PASS 1 FAIL 0
-osal-journal 1
+";
+
+const TIMEOUT_JOURNAL: &str = "osal-journal 1
 0 0 0x00000000 0 task_create \"main\" 0 0 0 => 0 65537 \"\"
 1 2 0x00010001 0 checkpoint => go 0 \"\"
 2 2 0x00010001 0 queue_create \"q\" 2 4 => 0 131073 \"\"
@@ -68,24 +51,38 @@ const MADE_OUTPUT: &str = "[BEGIN] 0x00010001 main
 [TOTAL] TASKS 3 PASS 9 FAIL 0
 ";
 
-/// Whether a run with these words ends well with this output.
+/// Whether a run with these words ends well, with this report and what stands behind it.
 fn prints(
     rt: &impl Abort,
     alloc: Global,
     words: &[&str],
     text: &str,
-    output: &str,
+    (report, behind): (&str, &str),
 ) -> Result<bool, Fail> {
     let ran = run_words(rt, alloc, words, text.as_bytes(), NO_FAULTS)?;
-    Ok(ran.status == 0 && ran.written.as_slice() == output.as_bytes())
+    let mut output = Vec::from_slice(alloc, report.as_bytes())?;
+    output.extend_from_slice(behind.as_bytes())?;
+    Ok(ran.status == 0 && ran.written.as_slice() == output.as_slice())
 }
 
 #[test]
 fn the_journal_stands_behind_the_report(rt: HostRuntime) -> Result<(), Fail> {
     for (words, text, output) in [
-        (["--journal", "app"], FIRST_PATH, FIRST_OUTPUT),
-        (["app", "--journal"], FIRST_PATH, FIRST_OUTPUT),
-        (["app", "--journal"], TIMEOUT, TIMEOUT_OUTPUT),
+        (
+            ["--journal", "app"],
+            FIRST_PATH,
+            (FIRST_PATH_REPORT, FIRST_JOURNAL),
+        ),
+        (
+            ["app", "--journal"],
+            FIRST_PATH,
+            (FIRST_PATH_REPORT, FIRST_JOURNAL),
+        ),
+        (
+            ["app", "--journal"],
+            TIMEOUT,
+            (TIMEOUT_REPORT, TIMEOUT_JOURNAL),
+        ),
     ] {
         let same = prints(&rt, rt.alloc(), &words, text, output)?;
         assert!(rt; same);
@@ -95,8 +92,37 @@ fn the_journal_stands_behind_the_report(rt: HostRuntime) -> Result<(), Fail> {
 
 #[test]
 fn an_application_is_made_for_two_workers(rt: HostRuntime) -> Result<(), Fail> {
-    let one_word = prints(&rt, rt.alloc(), &["--make=2"], "", MADE_OUTPUT)?;
-    let two_words = prints(&rt, rt.alloc(), &["--make", "2"], "", MADE_OUTPUT)?;
+    let one_word = prints(&rt, rt.alloc(), &["--make=2"], "", (MADE_OUTPUT, ""))?;
+    let two_words = prints(&rt, rt.alloc(), &["--make", "2"], "", (MADE_OUTPUT, ""))?;
     assert!(rt; one_word && two_words);
+    Ok(())
+}
+
+/// Whether these words get the usage text, and nothing is run.
+fn gets_usage(rt: &impl Abort, alloc: Global, words: &[&str]) -> Result<bool, Fail> {
+    let usage = "usage: osal-run FILE | --journal FILE | --make N\n";
+    makes_no_call(rt, alloc, words, FIRST_PATH.as_bytes(), NO_FAULTS, 2, usage)
+}
+
+#[test]
+fn other_words_get_the_usage_text(rt: HostRuntime) -> Result<(), Fail> {
+    let commands: [&[&str]; 12] = [
+        &[],
+        &["--journal"],
+        &["--journal", "--journal"],
+        &["--make", "0"],
+        &["--make", "61"],
+        &["--make", "02"],
+        &["--make="],
+        &["--make", "2", "--journal"],
+        &["-x"],
+        &["-"],
+        &[""],
+        &["app", "app"],
+    ];
+    for (row, words) in commands.iter().enumerate() {
+        let usage = gets_usage(&rt, rt.alloc(), *words)?;
+        assert!(rt; usage, "row {row}");
+    }
     Ok(())
 }

@@ -1,0 +1,3 @@
+osal-app 1
+task main
+end

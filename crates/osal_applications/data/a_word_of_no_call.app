@@ -1,0 +1,4 @@
+osal-app 1
+task main
+socket_shut $s
+end

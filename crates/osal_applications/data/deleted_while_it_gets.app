@@ -1,0 +1,13 @@
+osal-app 1
+task main
+queue_create $q "q" 1 4
+task_create $t "w" w 0 10
+task_delay 10
+task_delete $t -> OS_SUCCESS
+task_delay 10
+queue_delete $q -> OS_SUCCESS
+end
+task w
+queue_find $q "q"
+queue_get $q 4 pend -> OS_SUCCESS
+end
