@@ -4,14 +4,11 @@ use Rattle.osal_base.specs.declared.limits.Limits.{Limits}
 use Rattle.osal_base.specs.Limits.{Fits}
 use Rattle.osal_base.specs.Reply.{is_success}
 use Rattle.osal_object.specs.Waits.{waits_on}
-use Rattle.osal_time.specs.Time.{is_timer}
-use Rattle.osal_file.specs.Held.{is_of_directory}
-use Rattle.osal_io.specs.Io.{is_of_stream}
 use Rattle.osal_call.specs.declared.call.Call.{Call}
 use Rattle.osal_call.specs.declared.call.Call.TheVariants as call
 use Rattle.osal_call.specs.declared.call.Entry.{Entry}
 use Rattle.osal_call.specs.Signature.{part_of_id}
-use Rattle.osal_machine.specs.Parts.{PartState, Tasks, Queues, CountSems, BinSems, Mutexes, Condvars, Time, Io, Console, Absent}
+use Rattle.osal_machine.specs.Parts.{PartState, on_objects}
 use Rattle.osal_machine.specs.Step.{MachineState, part_in, is_active}
 use Rattle.osal_machine.specs.History.{IsLegal, after_entry, replay}
 use Rattle.osal_laws.specs.Laws.{MakesActive, holds_in}
@@ -34,19 +31,7 @@ accepted test (entry ∷ entries) =
 
 -- how many open waits of a part stand on an object
 abbrev pub waits_in : PartState → ℕ → ℕ
-waits_in (Tasks tasks) id = waits_on tasks.objects.waits id
-waits_in (Queues queues) id = waits_on queues.objects.waits id
-waits_in (CountSems sems) id = waits_on sems.objects.waits id
-waits_in (BinSems sems) id = waits_on sems.objects.waits id
-waits_in (Mutexes mutexes) id = waits_on mutexes.objects.waits id
-waits_in (Condvars condvars) id = waits_on condvars.objects.waits id
-waits_in (Time time) id = if is_timer id then waits_on time.timers.waits id else waits_on time.timebases.waits id
-waits_in (Io io) id =
-    if is_of_stream id then waits_on io.streams.waits id
-    else (if is_of_directory id then waits_on io.files.directories.waits id
-    else waits_on io.files.systems.waits id)
-waits_in (Console console) id = waits_on console.objects.waits id
-waits_in Absent id = 0
+waits_in part id = on_objects (λ T W objects. waits_on objects.waits id) 0 part id
 
 -- an identifier is active after each of some entries
 abbrev pub StaysActive : MachineState → ℕ → List Entry → Type 0

@@ -1,5 +1,5 @@
 -- What holds of every history of the machine.
-use Rattle.std.specs.Prelude.{◌≡◌, ◌≢◌, ◌<◌, ◌≤◌, ◌-◌, ◌*◌, ◌^◌, ◌++◌, ℕ, List, [], ◌∷◌, Bool, true, false, Some, None, is_some, length, min, int_lt, pos, if◌then◌else◌}
+use Rattle.std.specs.Prelude.{◌≡◌, ◌≢◌, ◌<◌, ◌≤◌, ◌-◌, ◌*◌, ◌^◌, ◌++◌, ℕ, List, [], ◌∷◌, Bool, true, false, Some, None, is_some, length, min, int_lt, pos}
 use Rattle.osal_base.specs.declared.limits.Limits.{Limits}
 use Rattle.osal_base.specs.declared.reply.Answer.{Answer}
 use Rattle.osal_base.specs.declared.reply.Answer.TheVariants as answer
@@ -9,43 +9,36 @@ use Rattle.osal_base.specs.Limits.{Fits}
 use Rattle.osal_base.specs.Reply.{reply_of, refusal, deleted, is_waits}
 use Rattle.osal_idtable.specs.Table.{Active, active_at}
 use Rattle.osal_idtable.specs.WellFormed.{IsWellFormed}
+use Rattle.osal_object.specs.Objects.{ObjectsState}
 use Rattle.osal_object.specs.ObjectLaws.{IsCounted, holds_of}
 use Rattle.osal_task.specs.declared.part.Task.{Task}
 use Rattle.osal_task.specs.Tasks.{task_at}
-use Rattle.osal_queue.specs.Queues.{queue_at}
-use Rattle.osal_sem.specs.Counting.{count_sem_at}
-use Rattle.osal_sem.specs.Binary.{bin_sem_at}
-use Rattle.osal_mutex.specs.Mutexes.{mutex_at}
-use Rattle.osal_condvar.specs.Condvars.{condvar_at}
 use Rattle.osal_call.specs.Firing.{timer_limit}
-use Rattle.osal_time.specs.Time.{timebase_at, timer_at, is_timer}
+use Rattle.osal_time.specs.Time.{timebase_at, timer_at}
 use Rattle.osal_time.specs.Attachment.{AreAttached}
-use Rattle.osal_file.specs.Files.{system_at}
-use Rattle.osal_file.specs.Held.{is_of_directory}
-use Rattle.osal_io.specs.Io.{stream_at, is_of_stream}
+use Rattle.osal_io.specs.Io.{stream_at}
 use Rattle.osal_call.specs.declared.call.Call.{Call}
 use Rattle.osal_call.specs.declared.call.Call.TheVariants as call
 use Rattle.osal_call.specs.declared.call.Entry.{Entry}
-use Rattle.osal_call.specs.Signature.{Subject, Table, signature, subject_of, part_of, part_of_id, is_refused_before, is_wait_end}
+use Rattle.osal_call.specs.Signature.{Subject, Table, signature, subject_of, part_of, part_of_id, part_of_table, is_refused_before, is_wait_end}
 use Rattle.osal_call.specs.Signature as what
-use Rattle.osal_machine.specs.Parts.{PartState, Tasks, Queues, CountSems, BinSems, Mutexes, Condvars, Time, Io, Console, Absent}
+use Rattle.osal_machine.specs.Parts.{PartState, Time, Io, on_objects, is_active_in}
 use Rattle.osal_machine.specs.Step.{MachineState, part_in, step, is_active}
 use Rattle.osal_machine.specs.OpenWaits.{has_wait}
 use Rattle.osal_machine.specs.History.{IsLegal, replay, entries_of_part}
 
+-- whether an identifier is active in a table of a part; a part of one table has no other
+abbrev pub is_among : PartState → Table → ℕ → Bool
+is_among part what.OfType id = is_active_in part id
+is_among (Time time) what.Timebases id = is_some (timebase_at time id)
+is_among (Time time) what.Timers id = is_some (timer_at time id)
+is_among (Io io) what.Streams id = is_some (stream_at io id)
+is_among (Io io) what.Directories id = is_some (active_at io.files.directories.table id)
+is_among part table id = is_active_in part id
+
 -- whether an identifier is active in a table
 abbrev pub is_active_among : MachineState → Table → ℕ → Bool
-is_active_among state what.Tasks id = is_some (task_at state.tasks id)
-is_active_among state what.Queues id = is_some (queue_at state.queues id)
-is_active_among state what.CountSems id = is_some (count_sem_at state.count_sems id)
-is_active_among state what.BinSems id = is_some (bin_sem_at state.bin_sems id)
-is_active_among state what.Mutexes id = is_some (mutex_at state.mutexes id)
-is_active_among state what.Condvars id = is_some (condvar_at state.condvars id)
-is_active_among state what.Timebases id = is_some (timebase_at state.time id)
-is_active_among state what.Timers id = is_some (timer_at state.time id)
-is_active_among state what.Streams id = is_some (stream_at state.io id)
-is_active_among state what.Directories id = is_some (active_at state.io.files.directories.table id)
-is_active_among state what.OfType id = is_active state id
+is_active_among state table id = is_among (part_in (part_of_table table id) state) table id
 
 -- whether the object that a call of a task is on is there; a call on none needs none
 abbrev pub is_there : MachineState → ℕ → Subject → Bool
@@ -76,19 +69,7 @@ InactiveIdentifiersAreRefused =
 
 -- the wrap count of an identifier's table of objects in a part
 abbrev pub wraps_in : PartState → ℕ → ℕ
-wraps_in (Tasks tasks) id = tasks.objects.table.wraps
-wraps_in (Queues queues) id = queues.objects.table.wraps
-wraps_in (CountSems sems) id = sems.objects.table.wraps
-wraps_in (BinSems sems) id = sems.objects.table.wraps
-wraps_in (Mutexes mutexes) id = mutexes.objects.table.wraps
-wraps_in (Condvars condvars) id = condvars.objects.table.wraps
-wraps_in (Time time) id = if is_timer id then time.timers.table.wraps else time.timebases.table.wraps
-wraps_in (Io io) id =
-    if is_of_stream id then io.streams.table.wraps
-    else (if is_of_directory id then io.files.directories.table.wraps
-    else io.files.systems.table.wraps)
-wraps_in (Console console) id = console.objects.table.wraps
-wraps_in Absent id = 0
+wraps_in part id = on_objects (λ T W objects. objects.table.wraps) 0 part id
 
 -- the wrap count of an identifier's type
 abbrev pub wraps_of : MachineState → ℕ → ℕ
@@ -110,19 +91,7 @@ WrapCountRises =
 
 -- the holds of an identifier in a part
 abbrev pub holds_in : PartState → ℕ → ℕ
-holds_in (Tasks tasks) id = holds_of (task_at tasks id)
-holds_in (Queues queues) id = holds_of (queue_at queues id)
-holds_in (CountSems sems) id = holds_of (count_sem_at sems id)
-holds_in (BinSems sems) id = holds_of (bin_sem_at sems id)
-holds_in (Mutexes mutexes) id = holds_of (mutex_at mutexes id)
-holds_in (Condvars condvars) id = holds_of (condvar_at condvars id)
-holds_in (Time time) id = if is_timer id then holds_of (timer_at time id) else holds_of (timebase_at time id)
-holds_in (Io io) id =
-    if is_of_stream id then holds_of (stream_at io id)
-    else (if is_of_directory id then holds_of (active_at io.files.directories.table id)
-    else holds_of (system_at io.files id))
-holds_in (Console console) id = holds_of (active_at console.objects.table id)
-holds_in Absent id = 0
+holds_in part id = on_objects (λ T W objects. holds_of (active_at objects.table id)) 0 part id
 
 -- an entry that makes an identifier not active found no holds on it
 abbrev pub HeldObjectsAreKept : Type 0
@@ -160,20 +129,24 @@ EndsOfNoWaitChangeNothing =
     → has_wait (part_in part state) task ≡ false
     → step state task now (call.WaitEnd part) ≡ (refusal status.ErrIncorrectObjState, state)
 
+-- the objects of each kind in each part have a property
+pub record OfEach (P : (T W : Type 0) → ObjectsState T W → Type 0) (state : MachineState) : Type 0 where
+  pub tasks : P _ _ state.tasks.objects
+  pub queues : P _ _ state.queues.objects
+  pub count_sems : P _ _ state.count_sems.objects
+  pub bin_sems : P _ _ state.bin_sems.objects
+  pub mutexes : P _ _ state.mutexes.objects
+  pub condvars : P _ _ state.condvars.objects
+  pub timebases : P _ _ state.time.timebases
+  pub timers : P _ _ state.time.timers
+  pub streams : P _ _ state.io.streams
+  pub systems : P _ _ state.io.files.systems
+  pub directories : P _ _ state.io.files.directories
+  pub console : P _ _ state.console.objects
+
 -- the holds of each part's objects are those of callers and the open waits that stand on them
-pub record AreCounted (state : MachineState) : Type 0 where
-  pub tasks : IsCounted state.tasks.objects
-  pub queues : IsCounted state.queues.objects
-  pub count_sems : IsCounted state.count_sems.objects
-  pub bin_sems : IsCounted state.bin_sems.objects
-  pub mutexes : IsCounted state.mutexes.objects
-  pub condvars : IsCounted state.condvars.objects
-  pub timebases : IsCounted state.time.timebases
-  pub timers : IsCounted state.time.timers
-  pub streams : IsCounted state.io.streams
-  pub systems : IsCounted state.io.files.systems
-  pub directories : IsCounted state.io.files.directories
-  pub console : IsCounted state.console.objects
+abbrev pub AreCounted : MachineState → Type 0
+AreCounted state = OfEach (λ T W objects. IsCounted objects) state
 
 -- in every state of the machine the holds of an object are those of callers and the open waits that stand on it
 abbrev pub ObjectsAreCounted : Type 0
@@ -183,19 +156,8 @@ ObjectsAreCounted =
     → AreCounted (replay limits entries)
 
 -- the table of each part's objects is well formed
-pub record AreWellFormed (state : MachineState) : Type 0 where
-  pub tasks : IsWellFormed state.tasks.objects.table
-  pub queues : IsWellFormed state.queues.objects.table
-  pub count_sems : IsWellFormed state.count_sems.objects.table
-  pub bin_sems : IsWellFormed state.bin_sems.objects.table
-  pub mutexes : IsWellFormed state.mutexes.objects.table
-  pub condvars : IsWellFormed state.condvars.objects.table
-  pub timebases : IsWellFormed state.time.timebases.table
-  pub timers : IsWellFormed state.time.timers.table
-  pub streams : IsWellFormed state.io.streams.table
-  pub systems : IsWellFormed state.io.files.systems.table
-  pub directories : IsWellFormed state.io.files.directories.table
-  pub console : IsWellFormed state.console.objects.table
+abbrev pub AreWellFormed : MachineState → Type 0
+AreWellFormed state = OfEach (λ T W objects. IsWellFormed objects.table) state
 
 -- in every state of the machine the tables are well formed
 abbrev pub TablesAreWellFormed : Type 0

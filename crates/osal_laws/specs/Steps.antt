@@ -9,7 +9,7 @@ use Rattle.osal_object.specs.Waits.{wait_of, stands_on}
 use Rattle.osal_call.specs.declared.call.Call.{Call}
 use Rattle.osal_call.specs.declared.call.Call.TheVariants as call
 use Rattle.osal_call.specs.declared.call.Entry.{Entry}
-use Rattle.osal_machine.specs.Parts.{PartState, Tasks, Queues, CountSems, BinSems, Mutexes, Condvars, Time, Io, Console, Absent}
+use Rattle.osal_machine.specs.Parts.{PartState, Io, on_waits}
 use Rattle.osal_machine.specs.Step.{MachineState, part_in, step, is_active}
 use Rattle.osal_machine.specs.OpenWaits.{has_wait}
 use Rattle.osal_machine.specs.History.{replay}
@@ -33,18 +33,15 @@ abbrev pub stands : {W : Type 0} → ℕ → Option (WaitRecord W) → Bool
 stands id None = false
 stands id (Some wait) = stands_on id wait
 
+-- whether open waits of a part may stand on what has that identifier: in the io part on streams alone
+abbrev pub may_be_awaited : PartState → ℕ → Bool
+may_be_awaited (Io io) id = is_of_stream id
+may_be_awaited part id = true
+
 -- whether the open wait of a task in a part stands on an object
 abbrev pub stands_in : PartState → ℕ → ℕ → Bool
-stands_in (Tasks tasks) task id = stands id (wait_of tasks.objects.waits task)
-stands_in (Queues queues) task id = stands id (wait_of queues.objects.waits task)
-stands_in (CountSems sems) task id = stands id (wait_of sems.objects.waits task)
-stands_in (BinSems sems) task id = stands id (wait_of sems.objects.waits task)
-stands_in (Mutexes mutexes) task id = stands id (wait_of mutexes.objects.waits task)
-stands_in (Condvars condvars) task id = stands id (wait_of condvars.objects.waits task)
-stands_in (Time time) task id = false
-stands_in (Io io) task id = if is_of_stream id then stands id (wait_of io.streams.waits task) else false
-stands_in (Console console) task id = false
-stands_in Absent task id = false
+stands_in part task id =
+    if may_be_awaited part id then on_waits (λ W waits. stands id (wait_of waits task)) false part else false
 
 -- a task's wait in a part is over: its record is gone, the other tasks wait as before, and each object on which it stood
 -- has one hold less

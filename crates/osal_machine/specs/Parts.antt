@@ -1,23 +1,24 @@
 -- The parts of the machine.
-use Rattle.std.specs.Prelude.{ℕ, Bool, false, is_some}
+use Rattle.std.specs.Prelude.{◌==◌, ℕ, Bool, false, is_some, if◌then◌else◌}
 use Rattle.osal_base.specs.declared.time.Moment.{Moment}
 use Rattle.osal_base.specs.declared.status.Status.TheVariants as status
 use Rattle.osal_base.specs.Reply.{Replied, refusal}
+use Rattle.osal_idtable.specs.Table.{active_at}
+use Rattle.osal_object.specs.Objects.{ObjectsState}
+use Rattle.osal_object.specs.Waits.{WaitsState}
 use Rattle.osal_task.specs.Tasks as of_tasks
-use Rattle.osal_task.specs.Tasks.{TaskState, task_at}
+use Rattle.osal_task.specs.Tasks.{TaskState}
 use Rattle.osal_task.specs.Calls.{task_step}
-use Rattle.osal_queue.specs.Queues.{QueueState, queue_at, queue_step}
-use Rattle.osal_sem.specs.Counting.{CountSemState, count_sem_at, count_sem_step}
-use Rattle.osal_sem.specs.Binary.{BinSemState, bin_sem_at, bin_sem_step}
-use Rattle.osal_mutex.specs.Mutexes.{MutexState, mutex_at, mutex_step}
-use Rattle.osal_condvar.specs.Condvars.{CondvarState, condvar_at, condvar_step}
-use Rattle.osal_time.specs.Time as of_time
-use Rattle.osal_time.specs.Time.{TimeState}
+use Rattle.osal_queue.specs.Queues.{QueueState, queue_step}
+use Rattle.osal_sem.specs.Counting.{CountSemState, count_sem_step}
+use Rattle.osal_sem.specs.Binary.{BinSemState, bin_sem_step}
+use Rattle.osal_mutex.specs.Mutexes.{MutexState, mutex_step}
+use Rattle.osal_condvar.specs.Condvars.{CondvarState, condvar_step}
+use Rattle.osal_time.specs.Time.{TimeState, is_timer}
 use Rattle.osal_time.specs.Calls.{time_step}
-use Rattle.osal_io.specs.Io as of_io
-use Rattle.osal_io.specs.Io.{IoState}
+use Rattle.osal_file.specs.Held.{is_of_directory}
+use Rattle.osal_io.specs.Io.{IoState, is_of_stream}
 use Rattle.osal_io.specs.Calls.{io_step}
-use Rattle.osal_console.specs.Console as of_console
 use Rattle.osal_console.specs.Console.{ConsoleState, console_step}
 use Rattle.osal_call.specs.declared.call.Call.{Call}
 use Rattle.osal_call.specs.declared.call.Call.TheVariants as call
@@ -58,18 +59,51 @@ part_step (Io io) task now made = as_part (λ s. Io s) (io_step io task now made
 part_step (Console console) task now made = as_part (λ s. Console s) (console_step console task now made)
 part_step Absent task now made = (absent_reply made, Absent)
 
+-- what is seen of the objects of a part among which an identifier is looked for, or stands for none where no part is
+abbrev pub on_objects : {X : Type 0} → ((T W : Type 0) → ObjectsState T W → X) → X → PartState → ℕ → X
+on_objects see none (Tasks tasks) id = see _ _ tasks.objects
+on_objects see none (Queues queues) id = see _ _ queues.objects
+on_objects see none (CountSems sems) id = see _ _ sems.objects
+on_objects see none (BinSems sems) id = see _ _ sems.objects
+on_objects see none (Mutexes mutexes) id = see _ _ mutexes.objects
+on_objects see none (Condvars condvars) id = see _ _ condvars.objects
+on_objects see none (Time time) id = if is_timer id then see _ _ time.timers else see _ _ time.timebases
+on_objects see none (Io io) id =
+    if is_of_stream id then see _ _ io.streams
+    else (if is_of_directory id then see _ _ io.files.directories
+    else see _ _ io.files.systems)
+on_objects see none (Console console) id = see _ _ console.objects
+on_objects see none Absent id = none
+
+-- what is seen of the open waits of a part, or stands for none where tasks do not wait
+abbrev pub on_waits {ℓ} : {X : Type ℓ} → ((W : Type 0) → WaitsState W → X) → X → PartState → X
+on_waits see none (Tasks tasks) = see _ tasks.objects.waits
+on_waits see none (Queues queues) = see _ queues.objects.waits
+on_waits see none (CountSems sems) = see _ sems.objects.waits
+on_waits see none (BinSems sems) = see _ sems.objects.waits
+on_waits see none (Mutexes mutexes) = see _ mutexes.objects.waits
+on_waits see none (Condvars condvars) = see _ condvars.objects.waits
+on_waits see none (Time time) = none
+on_waits see none (Io io) = see _ io.streams.waits
+on_waits see none (Console console) = none
+on_waits see none Absent = none
+
+-- whether a part of that number is this one
+abbrev pub is_part : PartState → ℕ → Bool
+is_part (Tasks tasks) part = part == 0
+is_part (Queues queues) part = part == 1
+is_part (CountSems sems) part = part == 2
+is_part (BinSems sems) part = part == 3
+is_part (Mutexes mutexes) part = part == 4
+is_part (Condvars condvars) part = part == 5
+is_part (Time time) part = part == 6
+is_part (Io io) part = part == 7
+is_part (Console console) part = part == 8
+is_part Absent part = false
+
 -- whether an identifier is active in a part
 abbrev pub is_active_in : PartState → ℕ → Bool
-is_active_in (Tasks tasks) id = is_some (task_at tasks id)
-is_active_in (Queues queues) id = is_some (queue_at queues id)
-is_active_in (CountSems sems) id = is_some (count_sem_at sems id)
-is_active_in (BinSems sems) id = is_some (bin_sem_at sems id)
-is_active_in (Mutexes mutexes) id = is_some (mutex_at mutexes id)
-is_active_in (Condvars condvars) id = is_some (condvar_at condvars id)
-is_active_in (Time time) id = of_time.is_active time id
-is_active_in (Io io) id = of_io.is_active io id
-is_active_in (Console console) id = of_console.is_active console id
-is_active_in Absent id = false
+is_active_in part id = on_objects (λ T W objects. is_some (active_at objects.table id)) false part id
 
 -- whether a task is active in a part and not marked for deletion: only the task part has tasks
 abbrev pub goes_in : PartState → ℕ → Bool

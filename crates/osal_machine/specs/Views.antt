@@ -1,10 +1,10 @@
 -- What stands behind the calls of parts: one part alone, or the whole machine.
-use Rattle.std.specs.Prelude.{◌==◌, ℕ, Bool, true, false, not}
+use Rattle.std.specs.Prelude.{ℕ, Bool, true, not}
 use Rattle.osal_base.specs.declared.time.Moment.{Moment}
 use Rattle.osal_base.specs.Reply.{Replied, is_waits}
 use Rattle.osal_task.specs.Tasks.{goes}
 use Rattle.osal_call.specs.Call.{part_of}
-use Rattle.osal_machine.specs.Parts.{PartState, Tasks, Queues, CountSems, BinSems, Mutexes, Condvars, Time, Io, Console, Absent, part_step, is_active_in, goes_in}
+use Rattle.osal_machine.specs.Parts.{PartState, part_step, is_part, is_active_in, goes_in}
 use Rattle.osal_machine.specs.Step.{MachineState, step, is_active}
 use Rattle.osal_call.specs.declared.call.Call.{Call}
 use Rattle.osal_call.specs.declared.call.Call.TheVariants as call
@@ -13,19 +13,6 @@ use Rattle.osal_call.specs.declared.call.Call.TheVariants as call
 pub data PartView : Type 0 where
   Alone : PartState → PartView
   All : MachineState → PartView
-
--- whether a part of that number is this one
-abbrev pub is_part : PartState → ℕ → Bool
-is_part (Tasks tasks) part = part == 0
-is_part (Queues queues) part = part == 1
-is_part (CountSems sems) part = part == 2
-is_part (BinSems sems) part = part == 3
-is_part (Mutexes mutexes) part = part == 4
-is_part (Condvars condvars) part = part == 5
-is_part (Time time) part = part == 6
-is_part (Io io) part = part == 7
-is_part (Console console) part = part == 8
-is_part Absent part = false
 
 -- whether a call is one of the part's own; the whole machine has every call
 abbrev pub is_own : PartView → Call → Bool
