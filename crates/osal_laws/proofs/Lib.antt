@@ -2,7 +2,7 @@ pub mod Histories
 pub mod Own
 pub mod Alone
 pub mod Stale
-pub mod PartMoves
+pub mod Places
 pub mod Replays
 pub mod Unheld
 pub mod Marked

@@ -1,5 +1,5 @@
 -- An object that becomes active is not held, and no wait stands on it.
-use Rattle.std.proofs.Common.{◌≡◌, ℕ, Bool, true, false, cond, List, Option, Some, is_some, Result, Ok, Err, None, inl, inr, refl, sym, ap, ◌∙◌, arith}
+use Rattle.std.proofs.Common.{◌≡◌, ℕ, Bool, true, false, List, Option, Some, is_some, Result, Ok, Err, None, inl, inr, refl, sym, ap, ◌∙◌, arith}
 use Rattle.std.specs.FinMap as map
 use Rattle.std.proofs.lemmas.Bool.{cases_eq, both_ways}
 use Rattle.osal_idtable.specs.declared.table.IdFault.{IdFault}
@@ -14,9 +14,6 @@ use Rattle.osal_object.specs.ObjectLaws.{IsCounted, holds_of}
 use Rattle.osal_object.proofs.Activity.{changes_alike, reserve_active, settle_elsewhere}
 use Rattle.osal_object.proofs.HeldEach.{there, one_there}
 use Rattle.osal_object.proofs.Moves.{IsMove, is_there}
-use Rattle.osal_time.specs.Time.{is_timer}
-use Rattle.osal_file.specs.Held.{is_of_directory}
-use Rattle.osal_io.specs.Io.{is_of_stream}
 use Rattle.osal_call.specs.declared.call.Entry.{Entry}
 use Rattle.osal_machine.specs.Parts.{is_active_in}
 use Rattle.osal_machine.specs.Step.{MachineState, part_in}
@@ -24,8 +21,7 @@ use Rattle.osal_machine.specs.History.{after_entry}
 use Rattle.osal_laws.specs.Laws.{AreCounted, holds_in}
 use Rattle.osal_laws.specs.Holds.{waits_in}
 use Rattle.osal_laws.proofs.NoneHeld.{changes_unheld}
-use Rattle.osal_laws.proofs.Own.{by_number}
-use Rattle.osal_laws.proofs.PartMoves.{tasks_in, tasks_move, queues_in, queues_move, count_sems_in, count_sems_move, bin_sems_in, bin_sems_move, mutexes_in, mutexes_move, condvars_in, condvars_move, timebases_in, timebases_move, timers_in, timers_move, streams_in, streams_move, systems_in, systems_move, directories_in, directories_move, consoles_in, consoles_move}
+use Rattle.osal_laws.proofs.Places.{by_place}
 use Rattle.osal_laws.proofs.Replays.{entry_moves}
 
 settled_new : {T : Type 0} (table : TableState T) (id : ℕ) (o : Option (Option (List ℕ))) (object : T) (b : Active T) → is_some (active_at table id) ≡ false → active_at (settle table id o (Some object)) id ≡ Some b → b.holds ≡ 0
@@ -81,28 +77,12 @@ move_new q old new by counted none some =
     let holds = ap holds_of found.1 in
     omega arith
 
-either_new : (own : Bool) {a b c d : Bool} {m n k l : ℕ} → (a ≡ false → c ≡ true → m ≡ k) → (b ≡ false → d ≡ true → n ≡ l) → cond own a b ≡ false → cond own c d ≡ true → cond own m n ≡ cond own k l
-either_new true one other = one
-either_new false one other = other
-
-module _ (state : MachineState) (entry : Entry) (counted : AreCounted (after_entry state entry)) (q : ℕ) where
-  -- what an entry makes active has as many holds as waits that stand on it
-  pub entry_new : (part : ℕ) → is_active_in (part_in part state) q ≡ false → is_active_in (part_in part (after_entry state entry)) q ≡ true → holds_in (part_in part (after_entry state entry)) q ≡ waits_in (part_in part (after_entry state entry)) q
-  entry_new =
-      by_number (λ n p. is_active_in (part_in n state) q ≡ false → is_active_in p q ≡ true → holds_in p q ≡ waits_in p q) (after_entry state entry)
-      (move_new q state.tasks.objects _ (entry_moves tasks_in tasks_move 0 state entry) counted.tasks)
-      (move_new q state.queues.objects _ (entry_moves queues_in queues_move 1 state entry) counted.queues)
-      (move_new q state.count_sems.objects _ (entry_moves count_sems_in count_sems_move 2 state entry) counted.count_sems)
-      (move_new q state.bin_sems.objects _ (entry_moves bin_sems_in bin_sems_move 3 state entry) counted.bin_sems)
-      (move_new q state.mutexes.objects _ (entry_moves mutexes_in mutexes_move 4 state entry) counted.mutexes)
-      (move_new q state.condvars.objects _ (entry_moves condvars_in condvars_move 5 state entry) counted.condvars)
-      (either_new (is_timer q)
-      (move_new q state.time.timers _ (entry_moves timers_in timers_move 6 state entry) counted.timers)
-      (move_new q state.time.timebases _ (entry_moves timebases_in timebases_move 6 state entry) counted.timebases))
-      (either_new (is_of_stream q)
-      (move_new q state.io.streams _ (entry_moves streams_in streams_move 7 state entry) counted.streams)
-      (either_new (is_of_directory q)
-      (move_new q state.io.files.directories _ (entry_moves directories_in directories_move 7 state entry) counted.directories)
-      (move_new q state.io.files.systems _ (entry_moves systems_in systems_move 7 state entry) counted.systems)))
-      (move_new q state.console.objects _ (entry_moves consoles_in consoles_move 8 state entry) counted.console)
-      (λ n was now. absurd (both_ways false refl now))
+-- what an entry makes active in a part has as many holds as waits that stand on it
+pub entry_new : (state : MachineState) (entry : Entry) → AreCounted (after_entry state entry) → (q part : ℕ) → is_active_in (part_in part state) q ≡ false → is_active_in (part_in part (after_entry state entry)) q ≡ true → holds_in (part_in part (after_entry state entry)) q ≡ waits_in (part_in part (after_entry state entry)) q
+entry_new state entry counted q part =
+    let next = after_entry state entry in
+    by_place (λ look.
+    let there : MachineState → Bool = look Bool (λ T W objects. is_there objects q) false in
+    there state ≡ false → there next ≡ true → look ℕ (λ T W objects. holds_of (active_at objects.table q)) 0 next ≡ look ℕ (λ T W objects. waits_on objects.waits q) 0 next)
+    (λ T W of place. move_new q (of state) (of next) (entry_moves place state entry) (place.has (λ T W objects. IsCounted objects) next counted))
+    (λ was now. absurd (both_ways false refl now)) part q
