@@ -16,7 +16,7 @@ use Rattle.osal_call.specs.declared.call.Call.TheVariants as call
 use Rattle.osal_laws.proofs.Own.{own_step, other_kept, by_number}
 use Rattle.osal_laws.proofs.Known.{known_strays}
 use Rattle.osal_laws.proofs.TaskKnown.{tasks_known}
-use Rattle.osal_laws.proofs.PartWaits.{seen_in, part_waits, part_once, part_ends, part_abandons}
+use Rattle.osal_laws.proofs.KnownParts.{seen_in, known_part}
 use Rattle.osal_call.specs.Signature.{timeout_of, ends_wait}
 
 module _ (state : MachineState) (task : ℕ) (now : Moment) (made : Call) where
@@ -33,7 +33,7 @@ module _ (state : MachineState) (task : ℕ) (now : Moment) (made : Call) where
   pub own_waits : ends_wait made ≡ false → IsWaitStep (seen_in (part_in (part_of made) state)) task (timeout_of made) (step state task now made).0.answer (seen_in (part_in (part_of made) left))
   own_waits other =
       subst (λ p. IsWaitStep (seen_in (part_in (part_of made) state)) task (timeout_of made) (step state task now made).0.answer (seen_in p)) (sym (own_step state task now made))
-      (part_waits task now made (part_in (part_of made) state) other)
+      (let own = known_part state (part_of made) in own.waits task now made other)
 
   -- where the call's own part has the open waits that it had, each part has
   pub all_waits : SameWaits (seen_in (part_in (part_of made) state)) (seen_in (part_in (part_of made) left)) → (part : ℕ) → SameWaits (seen_in (part_in part state)) (seen_in (part_in part left))
@@ -53,7 +53,7 @@ module _ (state : MachineState) (task : ℕ) (now : Moment) (made : Call) where
       elim (cases_eq part (part_of made)) [
         | inl same ↦
             subst (λ n. WaitsOnce (part_in n state) other → WaitsOnce (part_in n left) other) (sym same)
-            (λ o. subst (λ p. WaitsOnce p other) (sym (own_step state task now made)) (part_once task now made (part_in (part_of made) state) other o)) once
+            (λ o. subst (λ p. WaitsOnce p other) (sym (own_step state task now made)) (let own = known_part state (part_of made) in own.once task now made other o)) once
         | inr ne ↦ subst (λ p. WaitsOnce p other) (sym (other_kept state task now made part ne)) once
       ]
 
@@ -89,7 +89,7 @@ module _ (state : MachineState) (task : ℕ) (now : Moment) where
             subst (λ n. IsWaitEnd (seen_in (part_in n state)) task (step state task now made).0.answer (seen_in (part_in n (step state task now made).1))) own
             (subst (λ p. IsWaitEnd (seen_in (part_in (part_of made) state)) task (step state task now made).0.answer (seen_in p)) (sym (own_step state task now made))
             (subst (λ n. IsWaitEnd (seen_in (part_in n state)) task (part_step (part_in n state) task now made).0.answer (seen_in (part_step (part_in n state) task now made).1)) (sym own)
-            (part_ends state task now part)))
+            (let at_part = known_part state part in at_part.ends task now)))
       ]
 
   -- a wait in a part that is given up
@@ -100,7 +100,7 @@ module _ (state : MachineState) (task : ℕ) (now : Moment) where
       subst (λ n. IsClosed (seen_in (part_in n state)) (seen_in (part_in n (step state task now made).1)) task) own
       (subst (λ p. IsClosed (seen_in (part_in (part_of made) state)) (seen_in p) task) (sym (own_step state task now made))
       (subst (λ n. IsClosed (seen_in (part_in n state)) (seen_in (part_step (part_in n state) task now made).1) task) (sym own)
-      (part_abandons state task now part some)))
+      (let at_part = known_part state part in at_part.abandons task now some)))
 
   -- each other part has the open waits that it had
   pub others_kept : (made : Call) (part : ℕ) → part ≤ 8 → part_of made ≡ part_of_wait part → (other : ℕ) → (other ≡ part → ⊥) → SameWaits (seen_in (part_in other state)) (seen_in (part_in other (step state task now made).1))

@@ -8,6 +8,9 @@ pub mod Unheld
 pub mod Marked
 pub mod TasksKept
 pub mod PartWaits
+pub mod KnownParts
+pub mod PartShifts
+pub mod Ended
 pub mod CallWaits
 pub mod DueCounts
 pub mod OpenParts

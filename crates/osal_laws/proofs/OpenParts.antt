@@ -1,11 +1,12 @@
 -- A part has an open wait where some task has one in it.
-use Rattle.std.proofs.Common.{◌≡◌, ℕ, true, List, [], ◌∷◌, find, length, is_some, nat_lt, refl, ◌∙◌, arith}
+use Rattle.std.proofs.Common.{◌≡◌, ℕ, Bool, true, false, List, [], ◌∷◌, find, length, is_some, nat_lt, refl, ◌∙◌, arith}
 use Rattle.std.proofs.lemmas.Bool.{false≢true, or_left, eq-eqb, lt-ltb}
 use Rattle.osal_object.specs.declared.waits.WaitRecord.{WaitRecord}
-use Rattle.osal_object.specs.Waits.{is_of}
+use Rattle.osal_object.specs.Waits.{is_of, wait_of}
 use Rattle.osal_object.proofs.OpenWaits.{found_any}
-use Rattle.osal_machine.specs.Parts.{PartState, Tasks, Queues, CountSems, BinSems, Mutexes, Condvars, Time, Io, Console, Absent}
+use Rattle.osal_machine.specs.Parts.{PartState}
 use Rattle.osal_machine.specs.OpenWaits.{has_wait, has_waits}
+use Rattle.osal_laws.proofs.Places.{by_waits}
 
 module _ {W : Type 0} where
   first_waits : (waits : List (WaitRecord W)) → nat_lt 0 (length waits) ≡ true → (task : ℕ) × (is_some (find (is_of task) waits) ≡ true)
@@ -18,26 +19,12 @@ module _ {W : Type 0} where
 
 -- where a part has an open wait, some task has it
 pub waits_there : (part : PartState) → has_waits part ≡ true → (task : ℕ) × (has_wait part task ≡ true)
-waits_there (Tasks tasks) some = first_waits tasks.objects.waits.records some
-waits_there (Queues queues) some = first_waits queues.objects.waits.records some
-waits_there (CountSems sems) some = first_waits sems.objects.waits.records some
-waits_there (BinSems sems) some = first_waits sems.objects.waits.records some
-waits_there (Mutexes mutexes) some = first_waits mutexes.objects.waits.records some
-waits_there (Condvars condvars) some = first_waits condvars.objects.waits.records some
-waits_there (Time time) some = absurd (false≢true some)
-waits_there (Io io) some = first_waits io.streams.waits.records some
-waits_there (Console console) some = absurd (false≢true some)
-waits_there Absent some = absurd (false≢true some)
+waits_there part =
+    by_waits (λ look. look Bool (λ W waits. nat_lt 0 (length waits.records)) false ≡ true → (task : ℕ) × (look Bool (λ W waits. is_some (wait_of waits task)) false ≡ true))
+    (λ W waits. first_waits waits.records) (λ some. absurd (false≢true some)) part
 
 -- where a task has an open wait in a part, the part has one
 pub has_there : (part : PartState) (task : ℕ) → has_wait part task ≡ true → has_waits part ≡ true
-has_there (Tasks tasks) task some = some_waits tasks.objects.waits.records task some
-has_there (Queues queues) task some = some_waits queues.objects.waits.records task some
-has_there (CountSems sems) task some = some_waits sems.objects.waits.records task some
-has_there (BinSems sems) task some = some_waits sems.objects.waits.records task some
-has_there (Mutexes mutexes) task some = some_waits mutexes.objects.waits.records task some
-has_there (Condvars condvars) task some = some_waits condvars.objects.waits.records task some
-has_there (Time time) task some = absurd (false≢true some)
-has_there (Io io) task some = some_waits io.streams.waits.records task some
-has_there (Console console) task some = absurd (false≢true some)
-has_there Absent task some = absurd (false≢true some)
+has_there part task =
+    by_waits (λ look. look Bool (λ W waits. is_some (wait_of waits task)) false ≡ true → look Bool (λ W waits. nat_lt 0 (length waits.records)) false ≡ true)
+    (λ W waits. some_waits waits.records task) (λ some. absurd (false≢true some)) part

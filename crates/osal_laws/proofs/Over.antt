@@ -1,4 +1,4 @@
--- The end of an open wait that does not wait on removes its record and gives its holds back.
+-- The end of an open wait that does not wait on gives its holds back, in the objects on which it stood.
 use Rattle.std.proofs.Common.{◌≡◌, ◌+◌, ℕ, Bool, true, false, cond, List, [], ◌∷◌, map, find, Option, Some, None, is_some, refl, sym, ap, subst, ◌∙◌, arith}
 use Rattle.std.proofs.lemmas.Bool.{cond_both, both_ways}
 use Rattle.osal_base.specs.declared.time.Moment.{Moment}
@@ -19,40 +19,24 @@ use Rattle.osal_object.proofs.Carried.{FitsEnding}
 use Rattle.osal_object.proofs.Counted.{holds_are_counted}
 use Rattle.osal_object.proofs.HeldEach.{put_holds}
 use Rattle.osal_object.proofs.Records.{share, count_less}
-use Rattle.osal_object.proofs.WaitSteps.{end_closes}
 use Rattle.osal_file.specs.Held.{is_of_directory}
 use Rattle.osal_io.specs.declared.awaited.Awaited.{Awaited}
 use Rattle.osal_io.specs.declared.part.Stream.{Stream}
 use Rattle.osal_io.specs.Io.{IoState, is_of_stream}
-use Rattle.osal_io.specs.Ends.{wait_end}
 use Rattle.osal_io.proofs.Awaits.{IsIoEnd, Refused, WaitsOn as StillWaits, Over}
-use Rattle.osal_io.proofs.Known.{io_end}
 use Rattle.osal_io.proofs.Makes.{makes_new, makes_balanced}
 use Rattle.osal_io.proofs.StreamWaits.{create_waits}
 use Rattle.osal_io.proofs.Tried.{Grown, Same, New}
 use Rattle.osal_call.specs.declared.call.Call.{Call}
 use Rattle.osal_call.specs.declared.call.Call.TheVariants as call
-use Rattle.osal_call.specs.Call.{part_of}
-use Rattle.osal_machine.specs.Parts.{Io, part_step}
-use Rattle.osal_machine.specs.Step.{MachineState, part_in}
-use Rattle.osal_machine.specs.OpenWaits.{has_wait}
-use Rattle.osal_machine.specs.History.{replay}
-use Rattle.osal_laws.specs.Laws.{AreCounted, holds_in}
-use Rattle.osal_laws.specs.Steps.{stands, stands_in, EndedWaitsAreOver}
-use Rattle.osal_laws.proofs.Own.{own_at, by_number}
-use Rattle.osal_laws.proofs.CallWaits.{near_part, of_near, end_at}
-use Rattle.osal_laws.proofs.Counted.{objects_counted}
+use Rattle.osal_machine.specs.Parts.{Io}
+use Rattle.osal_laws.specs.Laws.{holds_in}
+use Rattle.osal_laws.specs.Steps.{stands, stands_in}
 use Rattle.osal_laws.proofs.Known.{Known}
 use Rattle.osal_laws.proofs.NewObjects.{created_new}
-use Rattle.osal_laws.proofs.TaskKnown.{tasks_known}
-use Rattle.osal_laws.proofs.QueueKnown.{queues_known}
-use Rattle.osal_laws.proofs.CountSemKnown.{count_sems_known}
-use Rattle.osal_laws.proofs.BinSemKnown.{bin_sems_known}
-use Rattle.osal_laws.proofs.MutexKnown.{mutexes_known}
-use Rattle.osal_laws.proofs.CondvarKnown.{condvars_known}
 
 -- one for a test that passes, else none
-abbrev one_if : Bool → ℕ
+abbrev pub one_if : Bool → ℕ
 one_if test = cond test 1 0
 
 -- holds that fall by so many where something is there fall by so many
@@ -114,7 +98,7 @@ module _ {T W : Type 0} where
   written_counted task objects writes counted = let same = written_same task objects writes counted in same.counted
 
   -- a task's wait is over: the objects on which it stood have one hold less
-  abbrev GivesBack : ℕ → ObjectsState T W → ObjectsState T W → Type 0
+  abbrev pub GivesBack : ℕ → ObjectsState T W → ObjectsState T W → Type 0
   GivesBack task old new =
       (id : ℕ) → holds_of (active_at old.table id) ≡ holds_of (active_at new.table id) + one_if (stands id (wait_of old.waits task))
 
@@ -175,7 +159,7 @@ module _ (io : IoState) (task : ℕ) (counted : IsCounted io.streams) where
       ∙ ap (λ w. holds_of (active_at (end_wait start task).table id) + one_if (stands id (wait_of w task))) (create_waits io.streams None made))
 
   -- the end of a wait on streams, beside which one may be made
-  io_gives : (stepped : Replied × IoState) → IsIoEnd io task stepped → is_some (wait_of io.streams.waits task) ≡ true → is_waits stepped.0.answer ≡ false → (id : ℕ) → holds_in (Io io) id ≡ holds_in (Io stepped.1) id + one_if (stands_in (Io io) task id)
+  pub io_gives : (stepped : Replied × IoState) → IsIoEnd io task stepped → is_some (wait_of io.streams.waits task) ≡ true → is_waits stepped.0.answer ≡ false → (id : ℕ) → holds_in (Io io) id ≡ holds_in (Io stepped.1) id + one_if (stands_in (Io io) task id)
   io_gives stepped (Refused none is) some over = absurd (both_ways _ none some)
   io_gives stepped (StillWaits also is) some over =
       absurd (both_ways (is_waits stepped.0.answer) over (ap (λ (s : Replied × IoState). is_waits s.0.answer) is))
@@ -184,41 +168,9 @@ module _ (io : IoState) (task : ℕ) (counted : IsCounted io.streams) where
       (λ id. chosen_gives (is_of_stream id) (is_of_directory id) (stands id (wait_of io.streams.waits task)) (holds_of (active_at (end_wait before.1.streams task).table id)) (grown_gives before.1.streams grown id)
       (ap (λ o. holds_of (active_at o.table id)) (sym directories)) (ap (λ o. holds_of (active_at o.table id)) (sym systems)))
 
-known_gives : {S T W : Type 0} {number : ℕ} {own : ℕ → Bool} {objects : S → ObjectsState T W} {outcome : _} {ending : S → ℕ → Moment → Ending T W} {step : S → ℕ → Moment → Call → Replied × S} → Known number own objects outcome ending step → (old : S) (task : ℕ) (now : Moment) → IsCounted (objects old) → is_some (wait_of (objects old).waits task) ≡ true → is_waits (step old task now (call.WaitEnd number)).0.answer ≡ false → GivesBack task (objects old) (objects (step old task now (call.WaitEnd number)).1)
+-- the end of an open wait of a part that is known by its endings
+pub known_gives : {S T W : Type 0} {number : ℕ} {own : ℕ → Bool} {objects : S → ObjectsState T W} {outcome : _} {ending : S → ℕ → Moment → Ending T W} {step : S → ℕ → Moment → Call → Replied × S} → Known number own objects outcome ending step → (old : S) (task : ℕ) (now : Moment) → IsCounted (objects old) → is_some (wait_of (objects old).waits task) ≡ true → is_waits (step old task now (call.WaitEnd number)).0.answer ≡ false → GivesBack task (objects old) (objects (step old task now (call.WaitEnd number)).1)
 known_gives {number = number} {objects = objects} {ending = ending} known old task now counted some =
     subst (λ (s : Replied × ObjectsState _ _). is_waits s.0.answer ≡ false → GivesBack task (objects old) s.1)
     (sym (known.ends old task now number ∙ ap (λ b. ended_as (objects old) task (cond b (ending old task now) NoWait)) known.owns))
     (ending_gives task (objects old) (ending old task now) counted some (known.ends_fit old task now))
-
-module _ (state : MachineState) (task : ℕ) (now : Moment) (counted : AreCounted state) where
-  part_gives : (part : ℕ) → has_wait (part_in part state) task ≡ true → is_waits (part_step (part_in part state) task now (call.WaitEnd part)).0.answer ≡ false → (id : ℕ) → holds_in (part_in part state) id ≡ holds_in (part_step (part_in part state) task now (call.WaitEnd part)).1 id + one_if (stands_in (part_in part state) task id)
-  part_gives part =
-      by_number (λ n p. has_wait p task ≡ true → is_waits (part_step p task now (call.WaitEnd n)).0.answer ≡ false → (id : ℕ) → holds_in p id ≡ holds_in (part_step p task now (call.WaitEnd n)).1 id + one_if (stands_in p task id)) state
-      (known_gives tasks_known state.tasks task now counted.tasks)
-      (known_gives queues_known state.queues task now counted.queues)
-      (known_gives count_sems_known state.count_sems task now counted.count_sems)
-      (known_gives bin_sems_known state.bin_sems task now counted.bin_sems)
-      (known_gives mutexes_known state.mutexes task now counted.mutexes)
-      (known_gives condvars_known state.condvars task now counted.condvars)
-      (λ some. absurd (both_ways false refl some))
-      (λ some over. io_gives state.io task counted.streams (wait_end state.io task now) (io_end state.io task now) some over)
-      (λ some. absurd (both_ways false refl some))
-      (λ n some. absurd (both_ways false refl some))
-      part
-
--- the end of an open wait that does not wait on ends it
-pub ended_over : EndedWaitsAreOver
-ended_over limits entries task now part fits some over =
-    let state = replay limits entries in
-    let made : Call = call.WaitEnd part in
-    let own : part_of made ≡ part = of_near part (near_part state task part some) in
-    let closed = end_closes some over (end_at state task now part) in
-    let over_there : is_waits (part_step (part_in part state) task now made).0.answer ≡ false =
-    subst (λ n. is_waits (part_step (part_in n state) task now made).0.answer ≡ false) own over in
-    record {
-      gone = closed.own;
-      others = closed.others;
-      given_back = λ id.
-          part_gives state task now (objects_counted limits entries fits) part some over_there id
-          ∙ ap (λ p. holds_in p id + one_if (stands_in (part_in part state) task id)) (sym (own_at state task now made part (sym own)));
-    }

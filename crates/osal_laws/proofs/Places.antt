@@ -2,13 +2,14 @@
 use Rattle.std.proofs.Common.{ℕ, Bool, true, false, cond}
 use Rattle.osal_base.specs.declared.time.Moment.{Moment}
 use Rattle.osal_object.specs.Objects.{ObjectsState}
+use Rattle.osal_object.specs.Waits.{WaitsState}
 use Rattle.osal_object.proofs.Moves.{IsMove, stays}
 use Rattle.osal_time.specs.Time.{is_timer}
 use Rattle.osal_file.specs.Held.{is_of_directory}
 use Rattle.osal_io.specs.Io.{is_of_stream}
 use Rattle.osal_io.proofs.Known.{io_moves}
 use Rattle.osal_call.specs.declared.call.Call.{Call}
-use Rattle.osal_machine.specs.Parts.{on_objects}
+use Rattle.osal_machine.specs.Parts.{PartState, Tasks, Queues, CountSems, BinSems, Mutexes, Condvars, Io, on_objects, on_waits}
 use Rattle.osal_machine.specs.Step.{MachineState, part_in, with_part, step}
 use Rattle.osal_laws.specs.Laws.{OfEach}
 use Rattle.osal_laws.proofs.Own.{numbered, after_part}
@@ -148,3 +149,18 @@ each_place P state each = record {
   directories = each _ _ _ directories_place;
   console = each _ _ _ console_place;
 }
+
+-- what is seen of some open waits, or stands for none
+abbrev pub WaitsLook : Type 1
+WaitsLook = (X : Type 0) → ((W : Type 0) → WaitsState W → X) → X → X
+
+-- what holds of what is seen of any open waits, and where tasks do not wait, holds of what is seen of those of a part
+pub by_waits : (P : WaitsLook → Type 0) → ((W : Type 0) (waits : WaitsState W) → P (λ X see none. see W waits)) → P (λ X see none. none) → (part : PartState) → P (λ X see none. on_waits see none part)
+by_waits P each nothing (Tasks tasks) = each _ tasks.objects.waits
+by_waits P each nothing (Queues queues) = each _ queues.objects.waits
+by_waits P each nothing (CountSems sems) = each _ sems.objects.waits
+by_waits P each nothing (BinSems sems) = each _ sems.objects.waits
+by_waits P each nothing (Mutexes mutexes) = each _ mutexes.objects.waits
+by_waits P each nothing (Condvars condvars) = each _ condvars.objects.waits
+by_waits P each nothing (Io io) = each _ io.streams.waits
+by_waits P each nothing _ = nothing

@@ -1,5 +1,5 @@
 -- Every history moves the objects of each part, and the laws of objects hold of it.
-use Rattle.std.proofs.Common.{◌≡◌, ℕ, Bool, true, false, List, [], ◌∷◌, ◌++◌, refl, ap, sym, subst, ◌∙◌}
+use Rattle.std.proofs.Common.{◌≡◌, ℕ, Bool, false, List, [], ◌∷◌, ◌++◌, refl, ap, sym, subst, ◌∙◌}
 use Rattle.std.proofs.lemmas.Bool.{both_ways}
 use Rattle.osal_idtable.specs.Table.{active_at}
 use Rattle.osal_object.specs.Objects.{ObjectsState}

@@ -1,15 +1,15 @@
 -- Each call of the time part is known by its outcome over the timebases or over the timers, and what it writes across.
-use Rattle.std.proofs.Common.{◌≡◌, ◌==◌, ◌&&◌, ◌+◌, ℕ, List, Bool, true, false, cond, length, nat_lt, Option, Some, None, is_some, refl, sym, ap, subst, ◌∙◌}
+use Rattle.std.proofs.Common.{◌≡◌, ◌==◌, ◌&&◌, ◌+◌, ℕ, List, Bool, true, false, cond, length, nat_lt, Option, Some, None, is_some, refl, sym, ap, subst, ◌∙◌, map}
 use Rattle.std.proofs.lemmas.Bool.{cond-false, true≢false}
 use Rattle.osal_base.specs.declared.status.Status.TheVariants as status
 use Rattle.osal_base.specs.declared.time.Moment.{Moment}
 use Rattle.osal_base.specs.declared.time.Timeout.TheVariants as timeout
 use Rattle.osal_base.specs.Name.{name_fault}
-use Rattle.osal_base.specs.Reply.{Replied, refusal, is_waits, is_refusal}
+use Rattle.osal_base.specs.Reply.{Replied, refusal, is_waits, is_refusal, is_success}
 use Rattle.osal_idtable.specs.Table.{Active}
 use Rattle.osal_idtable.specs.Faults.{unless}
 use Rattle.osal_object.specs.Objects.{ObjectsState}
-use Rattle.osal_object.specs.Outcomes.{Named, Hold, Release, looks, carried_out}
+use Rattle.osal_object.specs.Outcomes.{Named, Hold, Release, looks, carried_out, as_change}
 use Rattle.osal_object.specs.Across.{across}
 use Rattle.osal_object.proofs.Moves.{IsMove, either, stays}
 use Rattle.osal_object.proofs.Refusals.{Leaves, fails, same, within}
@@ -28,6 +28,8 @@ use Rattle.osal_call.specs.Signature as what
 use Rattle.osal_time.specs.Calls.{time_call, time_step}
 use Rattle.osal_laws.proofs.Suits.{is_holding, Suits, suits_fit}
 use Rattle.osal_laws.proofs.Known.{none_of}
+use Rattle.osal_object.proofs.Activity.{Alike, changes_alike}
+use Rattle.osal_io.proofs.Makes.{AllButOne, move_one}
 
 module _ (time : TimeState) (task : ℕ) (now : Moment) where
   -- the outcome of a call does not wait, and holds or releases only where the call does
@@ -197,3 +199,33 @@ module _ (time : TimeState) (task : ℕ) (now : Moment) where
       subst (λ n. IsStale (time_step time task now (call.Release n))) same
       (one_gone (is_timer id) id (OnTimers (Release id)) (OnTimebases (Release id)) refl refl gone)
   either_stale _ id is gone = absurd (cc)
+
+module _ {T W : Type 0} where
+  across_alike : (reply : Replied) (writes : Replied → _) (objects : ObjectsState T W) → Alike objects.table (across reply writes objects).table
+  across_alike reply writes objects =
+      either (λ (o : ObjectsState T W). Alike objects.table o.table) (is_success reply.answer) _ _
+      (changes_alike objects (map as_change (writes reply)))
+      (λ q. refl)
+
+-- a choice of two that are the same is the same
+pub same_choice : (first : Bool) {a b c d : Bool} → a ≡ b → c ≡ d → cond first a c ≡ cond first b d
+same_choice true one other = one
+same_choice false one other = other
+
+module _ (time : TimeState) (task : ℕ) (now : Moment) where
+  -- a step of the time part leaves all but one identifier
+  abbrev LeavesAllButOne : Replied × TimeState → Type 0
+  LeavesAllButOne stepped = AllButOne (λ q. is_active time q) (λ q. is_active stepped.1 q)
+
+  -- a call of the time part makes at most one identifier active or not active
+  pub time_one : (holding : Bool) (made : TimeCall) → SuitsCall time task now holding made → LeavesAllButOne (done time task now made)
+  time_one holding (OnTimebases outcome) fits =
+      let one = move_one (outcome_moves time.timebases task now timeout.Check outcome (suits_fit holding time.timebases timeout.Check outcome fits)) in
+      (one.0, λ q ne. same_choice (is_timer q) refl (one.1 q ne))
+  time_one holding (OnTimers outcome) fits =
+      let one = move_one (outcome_moves time.timers task now timeout.Check outcome (suits_fit holding time.timers timeout.Check outcome fits)) in
+      (one.0, λ q ne. same_choice (is_timer q) (one.1 q ne) refl)
+  time_one holding (OnBoth outcome writes) fits =
+      let one = move_one (outcome_moves time.timers task now timeout.Check outcome (suits_fit holding time.timers timeout.Check outcome fits)) in
+      (one.0, λ q ne. same_choice (is_timer q) (one.1 q ne) (across_alike (carried_out time.timers task now outcome).0 writes time.timebases q))
+  time_one holding (Advance to) fits = either LeavesAllButOne (nat_lt time.moment.ms to) _ _ (0, λ q ne. refl) (0, λ q ne. refl)
