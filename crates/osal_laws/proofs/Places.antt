@@ -1,5 +1,5 @@
 -- The objects of each kind in each part: every call makes one move of them.
-use Rattle.std.proofs.Common.{ℕ, Bool, true, false, cond}
+use Rattle.std.proofs.Common.{◌≡◌, ℕ, Bool, true, false, cond, refl, sym, subst}
 use Rattle.osal_base.specs.declared.time.Moment.{Moment}
 use Rattle.osal_object.specs.Objects.{ObjectsState}
 use Rattle.osal_object.specs.Waits.{WaitsState}
@@ -9,7 +9,7 @@ use Rattle.osal_file.specs.Held.{is_of_directory}
 use Rattle.osal_io.specs.Io.{is_of_stream}
 use Rattle.osal_io.proofs.Known.{io_moves}
 use Rattle.osal_call.specs.declared.call.Call.{Call}
-use Rattle.osal_machine.specs.Parts.{PartState, Tasks, Queues, CountSems, BinSems, Mutexes, Condvars, Io, on_objects, on_waits}
+use Rattle.osal_machine.specs.Parts.{PartState, Tasks, Queues, CountSems, BinSems, Mutexes, Condvars, Io, part_step, on_objects, on_waits}
 use Rattle.osal_machine.specs.Step.{MachineState, part_in, with_part, step}
 use Rattle.osal_laws.specs.Laws.{OfEach}
 use Rattle.osal_laws.proofs.Own.{numbered, after_part}
@@ -29,89 +29,63 @@ pub record Place {T W : Type 0} (of : MachineState → ObjectsState T W) : Type 
   pub moves : (state : MachineState) (task : ℕ) (now : Moment) (made : Call) → IsMove (of state) (of (step state task now made).1)
   pub has : (P : (T W : Type 0) → ObjectsState T W → Type 0) (state : MachineState) → OfEach P state → P T W (of state)
 
+-- the objects of a kind in the part of a number, where each call of the part makes one move of them
+place_in : {T W : Type 0} (of : MachineState → ObjectsState T W) (number : ℕ) → ((state next : MachineState) → of (with_part state (part_in number next)) ≡ of next) → ((state : MachineState) (task : ℕ) (now : Moment) (made : Call) → IsMove (of state) (of (with_part state (part_step (part_in number state) task now made).1))) → ((P : (T W : Type 0) → ObjectsState T W → Type 0) (state : MachineState) → OfEach P state → P T W (of state)) → Place of
+place_in of number there each has = record {
+  moves = λ state task now made.
+      let next = (step state task now made).1 in
+      subst (IsMove (of state)) (there state next)
+      (after_part state task now made number (λ part. IsMove (of state) (of (with_part state part))) (subst (IsMove (of state)) (sym (there state state)) (stays (of state))) (each state task now made));
+  has = has;
+}
+
 -- the tasks
 pub tasks_place : Place (λ s. s.tasks.objects)
-tasks_place = record {
-  moves = λ state task now made. after_part state task now made 0 (λ part. IsMove state.tasks.objects (with_part state part).tasks.objects) (stays state.tasks.objects) (known_moves tasks_known state.tasks task now made);
-  has = λ P state each. each.tasks;
-}
+tasks_place = place_in _ 0 (λ state next. refl) (λ state task now made. known_moves tasks_known state.tasks task now made) (λ P state each. each.tasks)
 
 -- the queues
 pub queues_place : Place (λ s. s.queues.objects)
-queues_place = record {
-  moves = λ state task now made. after_part state task now made 1 (λ part. IsMove state.queues.objects (with_part state part).queues.objects) (stays state.queues.objects) (known_moves queues_known state.queues task now made);
-  has = λ P state each. each.queues;
-}
+queues_place = place_in _ 1 (λ state next. refl) (λ state task now made. known_moves queues_known state.queues task now made) (λ P state each. each.queues)
 
 -- the counting semaphores
 pub count_sems_place : Place (λ s. s.count_sems.objects)
-count_sems_place = record {
-  moves = λ state task now made. after_part state task now made 2 (λ part. IsMove state.count_sems.objects (with_part state part).count_sems.objects) (stays state.count_sems.objects) (known_moves count_sems_known state.count_sems task now made);
-  has = λ P state each. each.count_sems;
-}
+count_sems_place = place_in _ 2 (λ state next. refl) (λ state task now made. known_moves count_sems_known state.count_sems task now made) (λ P state each. each.count_sems)
 
 -- the binary semaphores
 pub bin_sems_place : Place (λ s. s.bin_sems.objects)
-bin_sems_place = record {
-  moves = λ state task now made. after_part state task now made 3 (λ part. IsMove state.bin_sems.objects (with_part state part).bin_sems.objects) (stays state.bin_sems.objects) (known_moves bin_sems_known state.bin_sems task now made);
-  has = λ P state each. each.bin_sems;
-}
+bin_sems_place = place_in _ 3 (λ state next. refl) (λ state task now made. known_moves bin_sems_known state.bin_sems task now made) (λ P state each. each.bin_sems)
 
 -- the mutexes
 pub mutexes_place : Place (λ s. s.mutexes.objects)
-mutexes_place = record {
-  moves = λ state task now made. after_part state task now made 4 (λ part. IsMove state.mutexes.objects (with_part state part).mutexes.objects) (stays state.mutexes.objects) (known_moves mutexes_known state.mutexes task now made);
-  has = λ P state each. each.mutexes;
-}
+mutexes_place = place_in _ 4 (λ state next. refl) (λ state task now made. known_moves mutexes_known state.mutexes task now made) (λ P state each. each.mutexes)
 
 -- the condition variables
 pub condvars_place : Place (λ s. s.condvars.objects)
-condvars_place = record {
-  moves = λ state task now made. after_part state task now made 5 (λ part. IsMove state.condvars.objects (with_part state part).condvars.objects) (stays state.condvars.objects) (known_moves condvars_known state.condvars task now made);
-  has = λ P state each. each.condvars;
-}
+condvars_place = place_in _ 5 (λ state next. refl) (λ state task now made. known_moves condvars_known state.condvars task now made) (λ P state each. each.condvars)
 
 -- the timebases
 pub timebases_place : Place (λ s. s.time.timebases)
-timebases_place = record {
-  moves = λ state task now made. after_part state task now made 6 (λ part. IsMove state.time.timebases (with_part state part).time.timebases) (stays state.time.timebases) ((time_moves state.time task now made).0);
-  has = λ P state each. each.timebases;
-}
+timebases_place = place_in _ 6 (λ state next. refl) (λ state task now made. (time_moves state.time task now made).0) (λ P state each. each.timebases)
 
 -- the timers
 pub timers_place : Place (λ s. s.time.timers)
-timers_place = record {
-  moves = λ state task now made. after_part state task now made 6 (λ part. IsMove state.time.timers (with_part state part).time.timers) (stays state.time.timers) ((time_moves state.time task now made).1);
-  has = λ P state each. each.timers;
-}
+timers_place = place_in _ 6 (λ state next. refl) (λ state task now made. (time_moves state.time task now made).1) (λ P state each. each.timers)
 
 -- the streams
 pub streams_place : Place (λ s. s.io.streams)
-streams_place = record {
-  moves = λ state task now made. after_part state task now made 7 (λ part. IsMove state.io.streams (with_part state part).io.streams) (stays state.io.streams) ((io_moves state.io task now made).0);
-  has = λ P state each. each.streams;
-}
+streams_place = place_in _ 7 (λ state next. refl) (λ state task now made. (io_moves state.io task now made).0) (λ P state each. each.streams)
 
 -- the file systems
 pub systems_place : Place (λ s. s.io.files.systems)
-systems_place = record {
-  moves = λ state task now made. after_part state task now made 7 (λ part. IsMove state.io.files.systems (with_part state part).io.files.systems) (stays state.io.files.systems) ((io_moves state.io task now made).1.0);
-  has = λ P state each. each.systems;
-}
+systems_place = place_in _ 7 (λ state next. refl) (λ state task now made. (io_moves state.io task now made).1.0) (λ P state each. each.systems)
 
 -- the directories
 pub directories_place : Place (λ s. s.io.files.directories)
-directories_place = record {
-  moves = λ state task now made. after_part state task now made 7 (λ part. IsMove state.io.files.directories (with_part state part).io.files.directories) (stays state.io.files.directories) ((io_moves state.io task now made).1.1);
-  has = λ P state each. each.directories;
-}
+directories_place = place_in _ 7 (λ state next. refl) (λ state task now made. (io_moves state.io task now made).1.1) (λ P state each. each.directories)
 
 -- the console's table
 pub console_place : Place (λ s. s.console.objects)
-console_place = record {
-  moves = λ state task now made. after_part state task now made 8 (λ part. IsMove state.console.objects (with_part state part).console.objects) (stays state.console.objects) (console_moves state.console task now made);
-  has = λ P state each. each.console;
-}
+console_place = place_in _ 8 (λ state next. refl) (λ state task now made. console_moves state.console task now made) (λ P state each. each.console)
 
 -- what is seen of some objects, or stands for none, in every state
 abbrev pub Look : Type 1

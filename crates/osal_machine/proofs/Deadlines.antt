@@ -14,6 +14,10 @@ AreLeast now state (part ∷ parts) (found ∷ others) =
     (found ≡ least (deadlines_of now (part_in part state))) × AreLeast now state parts others
 AreLeast now state parts found = ⊥
 
+-- what is found in a part, and what is found in the others
+pub both : {A B : Type 0} → A → B → A × B
+both here others = (here, others)
+
 -- the least of what is found
 abbrev pub soonest : List (Option ℕ) → Option ℕ
 soonest [] = None
