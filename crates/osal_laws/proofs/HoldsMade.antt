@@ -46,7 +46,7 @@ module _ (state : MachineState) (counted : AreCounted state) (task : ℕ) (now :
       elim (cases_eq (part_of_id q) (part_of made)) [
         | inl own ↦
             subst (λ n. ShiftsPart q made (part_in n state) ((step state task now made).0, part_in n (step state task now made).1)) (sym own)
-            (subst (λ p. ShiftsPart q made (part_in (part_of made) state) ((step state task now made).0, p)) (sym (own_step state task now made)) (let own = known_part state (part_of made) in own.shifts counted task now made q))
+            (subst (λ p. ShiftsPart q made (part_in (part_of made) state) ((step state task now made).0, p)) (sym (own_step state task now made)) (let own = known_part state (part_of made) in let tells = own.shifts counted task now made q in tells.told))
         | inr ne ↦
             subst (λ p. ShiftsPart q made (part_in (part_of_id q) state) ((step state task now made).0, p)) (sym (other_kept state task now made (part_of_id q) ne))
             (λ was also.

@@ -38,7 +38,7 @@ use Rattle.osal_laws.proofs.Own.{by_number}
 use Rattle.osal_laws.proofs.Below.{where_below}
 use Rattle.osal_laws.proofs.Suits.{is_holding}
 use Rattle.osal_laws.proofs.Known.{Known, seen_as, none_of, known_moves, known_keeps, known_stays, known_refuses, known_waits, known_ends, known_abandons, known_stale}
-use Rattle.osal_laws.proofs.Shifts.{counts, ShiftsBy, told_by, hold_shifts, release_shifts, known_shifts}
+use Rattle.osal_laws.proofs.Shifts.{Tells, either_tells, counts, ShiftsBy, tells_by, hold_shifts, release_shifts, known_shifts}
 use Rattle.osal_laws.proofs.Over.{one_if, io_gives, known_gives}
 use Rattle.osal_laws.proofs.TaskKnown.{tasks_known}
 use Rattle.osal_laws.proofs.QueueKnown.{queues_known}
@@ -48,8 +48,8 @@ use Rattle.osal_laws.proofs.MutexKnown.{mutexes_known}
 use Rattle.osal_laws.proofs.CondvarKnown.{condvars_known}
 use Rattle.osal_laws.proofs.TimeKnown.{fits, time_keeps, time_answers, time_one, same_choice, either_stale as time_stale}
 use Rattle.osal_laws.proofs.ConsoleKnown.{console_moves, console_keeps, console_answers, console_stale}
-use Rattle.osal_laws.proofs.IoShifts.{io_shifts, io_told}
-use Rattle.osal_laws.proofs.PartShifts.{task_hold, time_shifts, time_told, console_shifts}
+use Rattle.osal_laws.proofs.IoShifts.{io_shifts}
+use Rattle.osal_laws.proofs.PartShifts.{task_hold, time_shifts, console_shifts}
 
 -- what is seen of the open waits of a part
 abbrev pub seen_in : PartState → WaitsSeen
@@ -119,7 +119,7 @@ pub record KnownPart (number : ℕ) (Counted : Type 0) (old : Seen) (step : ℕ 
   -- and so is each call on one, where the part is one table
   pub stale_alone : old.alone ≡ true → (task : ℕ) (now : Moment) (made : Call) (id : ℕ) → part_of made ≡ number → ends_wait made ≡ false → is_refused_before made ≡ false → subject_of task made ≡ Some id → old.active id ≡ false → (step task now made).0 ≡ refusal status.ErrInvalidId
   -- the holds of an identifier beside the waits on it shift by what a call is and answers
-  pub shifts : Counted → (task : ℕ) (now : Moment) (made : Call) (q : ℕ) → old.active q ≡ true → (step task now made).1.active q ≡ true → (step task now made).1.holds q + old.standing q + counts (is_release_of q made) (step task now made).0.answer ≡ old.holds q + (step task now made).1.standing q + counts (is_hold_of q made) (step task now made).0.answer
+  pub shifts : Counted → (task : ℕ) (now : Moment) (made : Call) (q : ℕ) → Tells (old.active q) ((step task now made).1.active q) (old.holds q) ((step task now made).1.holds q) (old.standing q) ((step task now made).1.standing q) (counts (is_hold_of q made) (step task now made).0.answer) (counts (is_release_of q made) (step task now made).0.answer)
   -- the end of an open wait that does not wait on gives back a hold of each object on which it stood
   pub gives : Counted → (task : ℕ) (now : Moment) → old.waits.waits task ≡ true → is_waits (step task now (call.WaitEnd number)).0.answer ≡ false → (id : ℕ) → old.holds id ≡ (step task now (call.WaitEnd number)).1.holds id + one_if (old.stands task id)
 
@@ -158,7 +158,7 @@ of_table {objects = objects} {step = step} known part old counts_in holds releas
   one = λ task now made. move_one (known_moves known old task now made);
   stale = λ task now made id own other may is gone. known_stale known old task now made id other own (ap (what.id_of task) is) may (none_of (active_at (objects old).table id) gone);
   stale_alone = λ alone task now made id own other may on gone. known_stale known old task now made id other own on may (none_of (active_at (objects old).table id) gone);
-  shifts = λ counted task now made q. told_by q made (objects old) (seen_as objects (step old task now made)) (known_shifts known old task now (counts_in counted) q (holds task now q) (releases task now q) made);
+  shifts = λ counted task now made q. tells_by q made (objects old) (seen_as objects (step old task now made)) (known_shifts known old task now (counts_in counted) q (holds task now q) (releases task now q) made);
   gives = λ counted task now some over. known_gives known old task now (counts_in counted) some over;
 }
 
@@ -176,7 +176,9 @@ of_time time bases timers = record {
   stale_alone = λ alone. absurd (false≢true alone);
   shifts = λ counted task now made q.
       let shifts = time_shifts time (bases counted) (timers counted) task now q made in
-      time_told time (bases counted) (timers counted) task now q (is_timer q) made (time_step time task now made) shifts.timer shifts.timebase;
+      let stepped = time_step time task now made in
+      either_tells (is_timer q) (λ own. tells_by q made time.timers (stepped.0, stepped.1.timers) (shifts.timer own))
+      (λ other. tells_by q made time.timebases (stepped.0, stepped.1.timebases) (shifts.timebase other));
   gives = λ counted task now some. absurd (false≢true some);
 }
 
@@ -196,7 +198,11 @@ of_io io streams = record {
   stale_alone = λ alone. absurd (false≢true alone);
   shifts = λ counted task now made q.
       let shifts = io_shifts io (streams counted) task now q made in
-      io_told q io (is_of_stream q) (is_of_directory q) made (io_step io task now made) shifts.stream shifts.directory shifts.system;
+      let stepped = io_step io task now made in
+      either_tells (is_of_stream q) (λ own. tells_by q made io.streams (stepped.0, stepped.1.streams) (shifts.stream own))
+      (λ other. either_tells (is_of_directory q)
+      (λ own. tells_by q made io.files.directories (stepped.0, stepped.1.files.directories) (shifts.directory other own))
+      (λ not. tells_by q made io.files.systems (stepped.0, stepped.1.files.systems) (shifts.system other not)));
   gives = λ counted task now some over. io_gives io task (streams counted) (wait_end io task now) (io_end io task now) some over;
 }
 
@@ -212,7 +218,7 @@ of_console console = record {
   one = λ task now made. move_one (console_moves console task now made);
   stale = λ task now made id own other may is gone. console_stale console task now made id is gone;
   stale_alone = λ alone. absurd (false≢true alone);
-  shifts = λ counted task now made q. told_by q made console.objects (seen_as (λ (s : ConsoleState). s.objects) (console_step console task now made)) (console_shifts console task now q made);
+  shifts = λ counted task now made q. tells_by q made console.objects (seen_as (λ (s : ConsoleState). s.objects) (console_step console task now made)) (console_shifts console task now q made);
   gives = λ counted task now some. absurd (false≢true some);
 }
 
@@ -239,7 +245,7 @@ of_none number = record {
   one = λ task now made. (0, λ q ne. refl);
   stale = λ task now made id own other may is gone. none_there made id is;
   stale_alone = λ alone. absurd (false≢true alone);
-  shifts = λ counted task now made q was. absurd (false≢true was);
+  shifts = λ counted task now made q. record { told = λ was. absurd (false≢true was) };
   gives = λ counted task now some. absurd (false≢true some);
 }
 

@@ -1,34 +1,33 @@
 -- What a hold of a task, and each call of the time part and of the console, does to the holds of an identifier.
-use Rattle.std.proofs.Common.{◌≡◌, ◌==◌, ◌||◌, ◌+◌, ℕ, Bool, true, false, cond, List, nat_lt, refl, subst}
+use Rattle.std.proofs.Common.{◌≡◌, ◌==◌, ◌||◌, ℕ, true, false, cond, List, nat_lt, refl, subst}
 use Rattle.std.proofs.lemmas.Bool.{cond_both, both_ways}
 use Rattle.osal_base.specs.declared.status.Status.TheVariants as status
 use Rattle.osal_base.specs.declared.time.Moment.{Moment}
 use Rattle.osal_base.specs.declared.time.Timeout.TheVariants as timeout
 use Rattle.osal_base.specs.Reply.{Replied, is_success}
-use Rattle.osal_idtable.specs.Table.{active_at}
-use Rattle.osal_object.specs.Objects.{ObjectsState, hold_call_step, release_call_step}
-use Rattle.osal_object.specs.Waits.{waits_on}
+use Rattle.osal_object.specs.Objects.{ObjectsState}
 use Rattle.osal_object.specs.Outcomes.{Outcome, Write, Refuse, Hold, Release, carried_out}
 use Rattle.osal_object.specs.Across.{across}
-use Rattle.osal_object.specs.ObjectLaws.{IsCounted, holds_of}
+use Rattle.osal_object.specs.ObjectLaws.{IsCounted}
 use Rattle.osal_object.proofs.Balance.{AreBalanced}
 use Rattle.osal_object.proofs.Carried.{of_found}
-use Rattle.osal_object.proofs.Moves.{either, is_there}
+use Rattle.osal_object.proofs.Moves.{either}
 use Rattle.osal_task.specs.declared.part.Task.{Task}
 use Rattle.osal_task.specs.Tasks.{TaskState, task_at}
+use Rattle.osal_time.specs.Timebase.{Timebase}
+use Rattle.osal_time.specs.declared.timer.Timer.{Timer}
 use Rattle.osal_time.specs.Time.{TimeState, TimeCall, OnTimebases, OnTimers, OnBoth, Advance, is_timer, done}
 use Rattle.osal_call.specs.declared.call.Call.{Call}
 use Rattle.osal_call.specs.declared.call.Call.TheVariants as call
 use Rattle.osal_task.specs.Calls.{task_call}
 use Rattle.osal_time.specs.Calls.{time_call, time_step}
-use Rattle.osal_laws.specs.Holds.{is_hold_of, is_release_of}
 use Rattle.osal_laws.proofs.Known.{seen_as}
 use Rattle.osal_laws.proofs.TimeKnown.{SuitsCall, fits}
 use Rattle.osal_laws.proofs.ConsoleKnown.{written_each}
 use Rattle.osal_console.specs.Console.{ConsoleState, Stepped, drain_limit, console_step}
 use Rattle.osal_laws.proofs.Quiet.{same_balanced, written_balanced, quiet_balanced}
 use Rattle.osal_laws.proofs.Suits.{is_holding}
-use Rattle.osal_laws.proofs.Shifts.{counts, ShiftsBy, told_by, of_holding, differ, differ_too, quiet_shifts, others_hold, others_release, refused_hold, hold_shifts, release_shifts}
+use Rattle.osal_laws.proofs.Shifts.{ShiftsBy, of_holding, differ, differ_too, quiet_shifts, others_hold, others_release, refused_hold, hold_shifts, release_shifts}
 
 module _ (tasks : TaskState) (q : ℕ) (task : ℕ) (now : Moment) where
   -- a hold of a task, which is refused where it is marked for deletion
@@ -69,38 +68,26 @@ module _ (time : TimeState) (bases : IsCounted time.timebases) (timers : IsCount
         timebase = λ other. quiet_shifts q made time.timebases (stepped.0, stepped.1.timebases) none both.0;
       }
 
-  time_hold : (id : ℕ) → ShiftsTime (call.Hold id) (time_step time task now (call.Hold id))
-  time_hold id =
-      cond_both (is_timer id) (OnTimers (Hold id)) (OnTimebases (Hold id)) (λ made. ShiftsTime (call.Hold id) (done time task now made))
+  -- a hold or a release, which shifts the holds of its own identifier and of no other
+  time_held : (made : Call) (id : ℕ) (of_timers : Outcome Timer (Unit {0})) (of_bases : Outcome Timebase (Unit {0})) → ShiftsBy q made time.timers (carried_out time.timers task now of_timers) → ShiftsBy q made time.timebases (carried_out time.timebases task now of_bases) → ((T W : Type 0) (objects : ObjectsState T W) (reply : Replied) → (id ≡ q → ⊥) → ShiftsBy q made objects (reply, objects)) → ShiftsTime made (done time task now (cond (is_timer id) (OnTimers of_timers) (OnTimebases of_bases)))
+  time_held made id of_timers of_bases timer base others =
+      cond_both (is_timer id) (OnTimers of_timers) (OnTimebases of_bases) (λ by. ShiftsTime made (done time task now by))
       (λ own. record {
-        timer = λ also. hold_shifts time.timers q id;
-        timebase = λ other. others_hold q time.timebases id (hold_call_step time.timers id).0 (differ is_timer id q own other);
+        timer = λ also. timer;
+        timebase = λ other. others _ _ time.timebases (carried_out time.timers task now of_timers).0 (differ is_timer id q own other);
       })
       (λ other. record {
-        timer = λ own. others_hold q time.timers id (hold_call_step time.timebases id).0 (differ_too is_timer id q other own);
-        timebase = λ also. hold_shifts time.timebases q id;
-      })
-
-  time_release : (id : ℕ) → ShiftsTime (call.Release id) (time_step time task now (call.Release id))
-  time_release id =
-      cond_both (is_timer id) (OnTimers (Release id)) (OnTimebases (Release id)) (λ made. ShiftsTime (call.Release id) (done time task now made))
-      (λ own. record {
-        timer = λ also. release_shifts time.timers q id;
-        timebase = λ other. others_release q time.timebases id (release_call_step time.timers id).0 (differ is_timer id q own other);
-      })
-      (λ other. record {
-        timer = λ own. others_release q time.timers id (release_call_step time.timebases id).0 (differ_too is_timer id q other own);
-        timebase = λ also. release_shifts time.timebases q id;
+        timer = λ own. others _ _ time.timers (carried_out time.timebases task now of_bases).0 (differ_too is_timer id q other own);
+        timebase = λ also. base;
       })
 
   -- each call of the part shifts them by what it is and answers
   pub time_shifts : (made : Call) → ShiftsTime made (time_step time task now made)
-  time_shifts = of_holding (λ made. ShiftsTime made (time_step time task now made)) time_hold time_release quiet_step
-
-  -- so they do in the table that is chosen
-  pub time_told : (own : Bool) (made : Call) (stepped : Replied × TimeState) → (own ≡ true → ShiftsBy q made time.timers (stepped.0, stepped.1.timers)) → (own ≡ false → ShiftsBy q made time.timebases (stepped.0, stepped.1.timebases)) → cond own (is_there time.timers q) (is_there time.timebases q) ≡ true → cond own (is_there stepped.1.timers q) (is_there stepped.1.timebases q) ≡ true → cond own (holds_of (active_at stepped.1.timers.table q)) (holds_of (active_at stepped.1.timebases.table q)) + cond own (waits_on time.timers.waits q) (waits_on time.timebases.waits q) + counts (is_release_of q made) stepped.0.answer ≡ cond own (holds_of (active_at time.timers.table q)) (holds_of (active_at time.timebases.table q)) + cond own (waits_on stepped.1.timers.waits q) (waits_on stepped.1.timebases.waits q) + counts (is_hold_of q made) stepped.0.answer
-  time_told true made stepped timer timebase = told_by q made time.timers (stepped.0, stepped.1.timers) (timer refl)
-  time_told false made stepped timer timebase = told_by q made time.timebases (stepped.0, stepped.1.timebases) (timebase refl)
+  time_shifts =
+      of_holding (λ made. ShiftsTime made (time_step time task now made))
+      (λ id. time_held (call.Hold id) id (Hold id) (Hold id) (hold_shifts time.timers q id) (hold_shifts time.timebases q id) (λ T W objects. others_hold q objects id))
+      (λ id. time_held (call.Release id) id (Release id) (Release id) (release_shifts time.timers q id) (release_shifts time.timebases q id) (λ T W objects. others_release q objects id))
+      quiet_step
 
 module _ (console : ConsoleState) (task : ℕ) (now : Moment) where
   -- a call that neither holds nor releases leaves the table

@@ -56,6 +56,15 @@ of_holding P holds releases others (call.Hold id) = holds id
 of_holding P holds releases others (call.Release id) = releases id
 of_holding P holds releases others other = others other refl
 
+-- where an identifier was active and is, its holds beside the waits on it rise by some and fall by others
+pub record Tells (was now : Bool) (old_holds new_holds old_waits new_waits more less : ℕ) : Type 0 where
+  pub told : was ≡ true → now ≡ true → new_holds + old_waits + less ≡ old_holds + new_waits + more
+
+-- they do in the one of two tables that is chosen
+pub either_tells : (own : Bool) {was now was_other now_other : Bool} {a b c d e f g h more less : ℕ} → (own ≡ true → Tells was now a b c d more less) → (own ≡ false → Tells was_other now_other e f g h more less) → Tells (cond own was was_other) (cond own now now_other) (cond own a e) (cond own b f) (cond own c g) (cond own d h) more less
+either_tells true one other = one refl
+either_tells false one other = other refl
+
 module _ {T W : Type 0} where
   -- the holds of an object beside the waits on it rise by some and fall by others
   abbrev pub Shifts : ℕ → ℕ → ℕ → ObjectsState T W → ObjectsState T W → Type 0
@@ -78,19 +87,17 @@ module _ {T W : Type 0} where
       still q old stepped.1 _ _
       (ap (λ b. counts b stepped.0.answer) (no_hold q made none)) (ap (λ b. counts b stepped.0.answer) (no_release q made none)) balanced
 
-  -- so the holds of an identifier that is active before and after rise and fall
-  told : (q more less : ℕ) (old new : ObjectsState T W) → Shifts q more less old new → is_there old q ≡ true → is_there new q ≡ true → holds_of (active_at new.table q) + waits_on old.waits q + less ≡ holds_of (active_at old.table q) + waits_on new.waits q + more
-  told q more less old new shifts was now =
-      let before = there (active_at old.table q) was in
-      let after = there (active_at new.table q) now in
-      let both = shifts before.0 after.0 before.1 after.1 in
-      let old_holds = ap holds_of before.1 in
-      let new_holds = ap holds_of after.1 in
-      omega arith
-
-  -- so they do by what a call is and answers
-  pub told_by : (q : ℕ) (made : Call) (old : ObjectsState T W) (stepped : Replied × ObjectsState T W) → ShiftsBy q made old stepped → is_there old q ≡ true → is_there stepped.1 q ≡ true → holds_of (active_at stepped.1.table q) + waits_on old.waits q + counts (is_release_of q made) stepped.0.answer ≡ holds_of (active_at old.table q) + waits_on stepped.1.waits q + counts (is_hold_of q made) stepped.0.answer
-  told_by q made old stepped = told q (counts (is_hold_of q made) stepped.0.answer) (counts (is_release_of q made) stepped.0.answer) old stepped.1
+  -- so the holds of an identifier that is active before and after rise and fall, by what a call is and answers
+  pub tells_by : (q : ℕ) (made : Call) (old : ObjectsState T W) (stepped : Replied × ObjectsState T W) → ShiftsBy q made old stepped → Tells (is_there old q) (is_there stepped.1 q) (holds_of (active_at old.table q)) (holds_of (active_at stepped.1.table q)) (waits_on old.waits q) (waits_on stepped.1.waits q) (counts (is_hold_of q made) stepped.0.answer) (counts (is_release_of q made) stepped.0.answer)
+  tells_by q made old stepped shifts = record {
+    told = λ was now.
+        let before = there (active_at old.table q) was in
+        let after = there (active_at stepped.1.table q) now in
+        let both = shifts before.0 after.0 before.1 after.1 in
+        let old_holds = ap holds_of before.1 in
+        let new_holds = ap holds_of after.1 in
+        omega arith;
+  }
 
   -- a hold of another object, whatever it answers
   pub others_hold : (q : ℕ) (objects : ObjectsState T W) (id : ℕ) (reply : Replied) → (id ≡ q → ⊥) → ShiftsBy q (call.Hold id) objects (reply, objects)
