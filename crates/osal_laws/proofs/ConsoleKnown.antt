@@ -6,12 +6,12 @@ use Rattle.osal_base.specs.declared.time.Moment.{Moment}
 use Rattle.osal_base.specs.declared.time.Timeout.TheVariants as timeout
 use Rattle.osal_base.specs.Reply.{refusal, is_waits}
 use Rattle.osal_idtable.specs.Table.{active_at}
-use Rattle.osal_object.specs.Outcomes.{Hold, Release}
+use Rattle.osal_object.specs.Outcomes.{Outcome, Hold, Release, carried_out}
 use Rattle.osal_object.proofs.Carried.{outcome_moves, outcome_keeps, outcome_waits, gone_refused}
 use Rattle.osal_object.proofs.Moves.{IsMove, either, stays}
 use Rattle.osal_object.proofs.Refusals.{Leaves, fails, same, within}
 use Rattle.osal_object.proofs.WaitSteps.{goes_on}
-use Rattle.osal_console.specs.Console.{ConsoleState, Stepped, pending_limit, drain_limit, is_active, console_step}
+use Rattle.osal_console.specs.Console.{ConsoleState, Stepped, pending_limit, drain_limit, in_objects, is_active, console_step}
 use Rattle.osal_call.specs.declared.call.Call.{Call}
 use Rattle.osal_call.specs.declared.call.Call.TheVariants as call
 use Rattle.osal_call.specs.Signature.{signature}
@@ -19,7 +19,7 @@ use Rattle.osal_call.specs.Signature as what
 use Rattle.osal_laws.specs.Laws.{is_below_zero}
 use Rattle.osal_laws.proofs.Below.{where_below}
 use Rattle.osal_laws.proofs.Known.{none_of}
-use Rattle.osal_laws.proofs.Suits.{suits_fit}
+use Rattle.osal_laws.proofs.Suits.{Suits, suits_fit}
 
 module _ (console : ConsoleState) (task : ℕ) (now : Moment) where
   -- what holds of each way that a write ends
@@ -29,19 +29,23 @@ module _ (console : ConsoleState) (task : ℕ) (now : Moment) where
       (either P (nat_lt pending_limit (length console.pending + length text.bytes)) _ _ full (kept _))
       still
 
-  -- each call makes one move of the table
-  abbrev Moves : Stepped → Type 0
-  Moves stepped = IsMove console.objects stepped.1.objects
+  -- each call makes one move of the table, and none answers that it waits
+  abbrev Goes : Stepped → Type 0
+  Goes stepped = IsMove console.objects stepped.1.objects × (is_waits stepped.0.answer ≡ false)
 
-  pub console_moves : (made : Call) → Moves (console_step console task now made)
-  console_moves (call.ConsoleWrite text) =
-      written_each Moves (stays console.objects) (λ pending. stays console.objects) (stays console.objects) text
-  console_moves (call.Drain n) =
-      either Moves ((n == 0) || nat_lt drain_limit n) _ _ (stays console.objects) (stays console.objects)
-  console_moves (call.Hold id) =
-      outcome_moves console.objects task now timeout.Check (Hold id) (suits_fit true console.objects timeout.Check (Hold id) refl)
-  console_moves (call.Release id) = outcome_moves console.objects task now timeout.Check (Release id) (suits_fit true console.objects timeout.Check (Release id) refl)
-  console_moves _ = stays console.objects
+  held_goes : (outcome : Outcome (Unit {0}) (Unit {0})) → Suits true console.objects timeout.Check outcome → Goes (in_objects console (carried_out console.objects task now outcome))
+  held_goes outcome suits =
+      let fits = suits_fit true console.objects timeout.Check outcome suits in
+      (outcome_moves console.objects task now timeout.Check outcome fits, (goes_on refl (outcome_waits console.objects task now timeout.Check outcome fits)).0)
+
+  pub console_goes : (made : Call) → Goes (console_step console task now made)
+  console_goes (call.ConsoleWrite text) =
+      written_each Goes (stays console.objects, refl) (λ pending. (stays console.objects, refl)) (stays console.objects, refl) text
+  console_goes (call.Drain n) =
+      either Goes ((n == 0) || nat_lt drain_limit n) _ _ (stays console.objects, refl) (stays console.objects, refl)
+  console_goes (call.Hold id) = held_goes (Hold id) refl
+  console_goes (call.Release id) = held_goes (Release id) refl
+  console_goes _ = (stays console.objects, refl)
 
   -- a call that answers a code below 0 leaves the console
   abbrev Keeps : Stepped → Type 0
@@ -59,19 +63,6 @@ module _ (console : ConsoleState) (task : ℕ) (now : Moment) where
   console_keeps (call.Release id) =
       within (λ o. record console { objects = o }) (where_below (outcome_keeps console.objects task now (Release id)))
   console_keeps _ = same
-
-  -- no call answers that it waits
-  abbrev Answers : Stepped → Type 0
-  Answers stepped = is_waits stepped.0.answer ≡ false
-
-  pub console_answers : (made : Call) → Answers (console_step console task now made)
-  console_answers (call.ConsoleWrite text) = written_each Answers refl (λ pending. refl) refl text
-  console_answers (call.Drain n) = either Answers ((n == 0) || nat_lt drain_limit n) _ _ refl refl
-  console_answers (call.Hold id) =
-      (goes_on refl (outcome_waits console.objects task now timeout.Check (Hold id) (suits_fit true console.objects timeout.Check (Hold id) refl))).0
-  console_answers (call.Release id) =
-      (goes_on refl (outcome_waits console.objects task now timeout.Check (Release id) (suits_fit true console.objects timeout.Check (Release id) refl))).0
-  console_answers _ = refl
 
   -- a hold or a release of an identifier that is not the console's
   pub console_stale : (made : Call) (id : ℕ) → (signature made).subject ≡ what.Object what.OfType id → is_active console id ≡ false → (console_step console task now made).0 ≡ refusal status.ErrInvalidId

@@ -8,6 +8,7 @@ use Rattle.osal_base.specs.Identifier.{type_number, type_of}
 use Rattle.osal_base.specs.Limits.{Fits}
 use Rattle.osal_idtable.specs.Table.{TableState, active_at}
 use Rattle.osal_idtable.specs.WellFormed.{IsWellFormed, known_as}
+use Rattle.osal_object.specs.Objects.{ObjectsState}
 use Rattle.osal_object.proofs.HeldEach.{there}
 use Rattle.osal_object.proofs.Moves.{either, is_there as is_there_in}
 use Rattle.osal_object.proofs.Shapes.{move_shape}
@@ -23,7 +24,7 @@ use Rattle.osal_machine.specs.History.{replay}
 use Rattle.osal_laws.specs.Laws.{InactiveIdentifiersAreRefused, AreWellFormed, is_active_among, is_there}
 use Rattle.osal_laws.proofs.Counted.{bare_console, named_console, kind_kept, tables_well_formed}
 use Rattle.osal_laws.proofs.Own.{numbered}
-use Rattle.osal_laws.proofs.Places.{by_place, timebases_place, timers_place, streams_place, directories_place}
+use Rattle.osal_laws.proofs.Places.{Place, by_place, timebases_place, timers_place, streams_place, directories_place}
 use Rattle.osal_laws.proofs.Stale.{stale_refused}
 
 -- an active identifier has the type of its table
@@ -43,12 +44,16 @@ module _ (limits : Limits) (entries : List Entry) (fits : Fits limits) where
   abbrev tables : AreWellFormed state
   tables = tables_well_formed limits entries fits
 
-  -- what is active in a part has the type of its table at the start
+  -- what is active in a table has the type of the table at the start
+  typed_at : {T W : Type 0} {of : MachineState → ObjectsState T W} → Place of → (id : ℕ) → is_there_in (of state) id ≡ true → type_of id ≡ (of (opening limits)).table.kind
+  typed_at {of = of} place id =
+      typed (of state).table (of (opening limits)).table.kind id (place.has (λ T W objects. IsWellFormed objects.table) state tables) (kind_kept place (opening limits) entries)
+
+  -- and so has what is active in a part
   typed_in : (number id : ℕ) → is_active_in (part_in number state) id ≡ true → type_of id ≡ kind_in (part_in number (opening limits)) id
   typed_in number id =
       by_place (λ look. look Bool (λ T W objects. is_there_in objects id) false state ≡ true → type_of id ≡ look ℕ (λ T W objects. objects.table.kind) 0 (opening limits))
-      (λ T W of place. typed (of state).table (of (opening limits)).table.kind id (place.has (λ T W objects. IsWellFormed objects.table) state tables) (kind_kept place (opening limits) entries))
-      (λ some. absurd (both_ways false refl some)) number id
+      (λ T W of place. typed_at place id) (λ some. absurd (both_ways false refl some)) number id
 
   -- the table of a part is of a type of the part
   of_kind : (number id : ℕ) → is_active_in (part_in number state) id ≡ true → part_of_type (kind_in (part_in number (opening limits)) id) ≡ number
@@ -68,19 +73,19 @@ module _ (limits : Limits) (entries : List Entry) (fits : Fits limits) where
   -- what is active in a table is active
   among_active : (table : Table) (id : ℕ) → is_active_among state table id ≡ true → is_active state id ≡ true
   among_active what.Timebases id some =
-      let is = typed state.time.timebases.table (type_number kind.Timebase) id tables.timebases (kind_kept timebases_place (opening limits) entries) some in
+      let is : type_of id ≡ type_number kind.Timebase = typed_at timebases_place id some in
       let other : is_timer id ≡ false = ap (λ n. n == type_number kind.Timer) is in
       active_there (type_number kind.Timebase) id is (rw other some)
   among_active what.Timers id some =
-      let is = typed state.time.timers.table (type_number kind.Timer) id tables.timers (kind_kept timers_place (opening limits) entries) some in
+      let is : type_of id ≡ type_number kind.Timer = typed_at timers_place id some in
       let own : is_timer id ≡ true = ap (λ n. n == type_number kind.Timer) is in
       active_there (type_number kind.Timer) id is (rw own some)
   among_active what.Streams id some =
-      let is = typed state.io.streams.table (type_number kind.Stream) id tables.streams (kind_kept streams_place (opening limits) entries) some in
+      let is : type_of id ≡ type_number kind.Stream = typed_at streams_place id some in
       let own : is_of_stream id ≡ true = ap (λ n. n == type_number kind.Stream) is in
       active_there (type_number kind.Stream) id is (rw own some)
   among_active what.Directories id some =
-      let is = typed state.io.files.directories.table (type_number kind.Directory) id tables.directories (kind_kept directories_place (opening limits) entries) some in
+      let is : type_of id ≡ type_number kind.Directory = typed_at directories_place id some in
       let other : is_of_stream id ≡ false = ap (λ n. n == type_number kind.Stream) is in
       let own : is_of_directory id ≡ true = ap (λ n. n == type_number kind.Directory) is in
       active_there (type_number kind.Directory) id is (rw other (rw own some))

@@ -46,8 +46,8 @@ use Rattle.osal_laws.proofs.CountSemKnown.{count_sems_known}
 use Rattle.osal_laws.proofs.BinSemKnown.{bin_sems_known}
 use Rattle.osal_laws.proofs.MutexKnown.{mutexes_known}
 use Rattle.osal_laws.proofs.CondvarKnown.{condvars_known}
-use Rattle.osal_laws.proofs.TimeKnown.{fits, time_keeps, time_answers, time_one, same_choice, either_stale as time_stale}
-use Rattle.osal_laws.proofs.ConsoleKnown.{console_moves, console_keeps, console_answers, console_stale}
+use Rattle.osal_laws.proofs.TimeKnown.{fits, time_keeps, time_goes, time_one, same_choice, either_stale as time_stale}
+use Rattle.osal_laws.proofs.ConsoleKnown.{console_goes, console_keeps, console_stale}
 use Rattle.osal_laws.proofs.IoShifts.{io_shifts}
 use Rattle.osal_laws.proofs.PartShifts.{task_hold, time_shifts, console_shifts}
 
@@ -167,7 +167,7 @@ of_time time bases timers = record {
   keeps = λ task now made other. within (λ s. Time s) (where_below (time_keeps time task now made));
   stays = λ task now n. same;
   refuses = λ task now n none. refl;
-  waits = λ task now made other. goes (time_answers time task now made);
+  waits = λ task now made other. goes (time_goes time task now made).2;
   once = λ task now made other once. tt;
   ends = λ task now. Refuses refl refl;
   abandons = λ task now some. absurd (false≢true some);
@@ -211,11 +211,11 @@ of_console console = record {
   keeps = λ task now made other. within (λ s. Console s) (console_keeps console task now made);
   stays = λ task now n. same;
   refuses = λ task now n none. refl;
-  waits = λ task now made other. goes (console_answers console task now made);
+  waits = λ task now made other. goes (console_goes console task now made).1;
   once = λ task now made other once. tt;
   ends = λ task now. Refuses refl refl;
   abandons = λ task now some. absurd (false≢true some);
-  one = λ task now made. move_one (console_moves console task now made);
+  one = λ task now made. move_one (console_goes console task now made).0;
   stale = λ task now made id own other may is gone. console_stale console task now made id is gone;
   stale_alone = λ alone. absurd (false≢true alone);
   shifts = λ counted task now made q. tells_by q made console.objects (seen_as (λ (s : ConsoleState). s.objects) (console_step console task now made)) (console_shifts console task now q made);

@@ -20,8 +20,8 @@ use Rattle.osal_laws.proofs.CountSemKnown.{count_sems_known}
 use Rattle.osal_laws.proofs.BinSemKnown.{bin_sems_known}
 use Rattle.osal_laws.proofs.MutexKnown.{mutexes_known}
 use Rattle.osal_laws.proofs.CondvarKnown.{condvars_known}
-use Rattle.osal_laws.proofs.TimeKnown.{time_moves}
-use Rattle.osal_laws.proofs.ConsoleKnown.{console_moves}
+use Rattle.osal_laws.proofs.TimeKnown.{time_goes}
+use Rattle.osal_laws.proofs.ConsoleKnown.{console_goes}
 
 -- objects of one kind, in every state: each call makes one move of them, and what holds of those of each kind holds of
 -- them
@@ -65,11 +65,11 @@ condvars_place = place_in _ 5 (λ state next. refl) (λ state task now made. kno
 
 -- the timebases
 pub timebases_place : Place (λ s. s.time.timebases)
-timebases_place = place_in _ 6 (λ state next. refl) (λ state task now made. (time_moves state.time task now made).0) (λ P state each. each.timebases)
+timebases_place = place_in _ 6 (λ state next. refl) (λ state task now made. (time_goes state.time task now made).0) (λ P state each. each.timebases)
 
 -- the timers
 pub timers_place : Place (λ s. s.time.timers)
-timers_place = place_in _ 6 (λ state next. refl) (λ state task now made. (time_moves state.time task now made).1) (λ P state each. each.timers)
+timers_place = place_in _ 6 (λ state next. refl) (λ state task now made. (time_goes state.time task now made).1) (λ P state each. each.timers)
 
 -- the streams
 pub streams_place : Place (λ s. s.io.streams)
@@ -85,7 +85,7 @@ directories_place = place_in _ 7 (λ state next. refl) (λ state task now made. 
 
 -- the console's table
 pub console_place : Place (λ s. s.console.objects)
-console_place = place_in _ 8 (λ state next. refl) (λ state task now made. console_moves state.console task now made) (λ P state each. each.console)
+console_place = place_in _ 8 (λ state next. refl) (λ state task now made. (console_goes state.console task now made).0) (λ P state each. each.console)
 
 -- what is seen of some objects, or stands for none, in every state
 abbrev pub Look : Type 1

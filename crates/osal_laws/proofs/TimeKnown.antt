@@ -9,7 +9,7 @@ use Rattle.osal_base.specs.Reply.{Replied, refusal, is_waits, is_refusal, is_suc
 use Rattle.osal_idtable.specs.Table.{Active}
 use Rattle.osal_idtable.specs.Faults.{unless}
 use Rattle.osal_object.specs.Objects.{ObjectsState}
-use Rattle.osal_object.specs.Outcomes.{Named, Hold, Release, looks, carried_out, as_change}
+use Rattle.osal_object.specs.Outcomes.{Outcome, Named, Hold, Release, looks, carried_out, as_change}
 use Rattle.osal_object.specs.Across.{across}
 use Rattle.osal_object.proofs.Moves.{IsMove, either, stays}
 use Rattle.osal_object.proofs.Refusals.{Leaves, fails, same, within}
@@ -61,25 +61,30 @@ module _ (time : TimeState) (task : ℕ) (now : Moment) where
   fits (call.Release id) = either (SuitsCall true) (is_timer id) _ _ refl refl
   fits _ = tt
 
-  -- a step of the part makes one move of the timebases and one of the timers
-  abbrev Moves : Replied × TimeState → Type 0
-  Moves stepped = IsMove time.timebases stepped.1.timebases × IsMove time.timers stepped.1.timers
+  -- a step of the part makes one move of the timebases and one of the timers, and does not answer that it waits
+  abbrev Goes : Replied × TimeState → Type 0
+  Goes stepped =
+      IsMove time.timebases stepped.1.timebases × IsMove time.timers stepped.1.timers × (is_waits stepped.0.answer ≡ false)
 
-  done_moves : (holding : Bool) (made : TimeCall) → SuitsCall holding made → Moves (done time task now made)
-  done_moves holding (OnTimebases outcome) fits =
-      (outcome_moves time.timebases task now timeout.Check outcome (suits_fit holding time.timebases timeout.Check outcome fits), stays time.timers)
-  done_moves holding (OnTimers outcome) fits =
-      (stays time.timebases, outcome_moves time.timers task now timeout.Check outcome (suits_fit holding time.timers timeout.Check outcome fits))
-  done_moves holding (OnBoth outcome writes) fits = (
-    across_moves (carried_out time.timers task now outcome).0 writes time.timebases,
-    outcome_moves time.timers task now timeout.Check outcome (suits_fit holding time.timers timeout.Check outcome fits),
-  )
-  done_moves holding (Advance to) fits =
-      either Moves (nat_lt time.moment.ms to) _ _ (stays time.timebases, stays time.timers) (stays time.timebases, stays time.timers)
+  by_timers : (holding : Bool) (outcome : Outcome Timer (Unit {0})) (timebases : ObjectsState Timebase (Unit {0})) → Suits holding time.timers timeout.Check outcome → IsMove time.timebases timebases → let stepped = carried_out time.timers task now outcome in Goes (stepped.0, record time { timebases = timebases; timers = stepped.1 })
+  by_timers holding outcome timebases suits moves =
+      let fits = suits_fit holding time.timers timeout.Check outcome suits in
+      (moves, outcome_moves time.timers task now timeout.Check outcome fits, (goes_on refl (outcome_waits time.timers task now timeout.Check outcome fits)).0)
 
-  -- a call of the part makes one move of each
-  pub time_moves : (made : Call) → Moves (time_step time task now made)
-  time_moves made = done_moves (is_holding made) (time_call time made) (fits made)
+  done_goes : (holding : Bool) (made : TimeCall) → SuitsCall holding made → Goes (done time task now made)
+  done_goes holding (OnTimebases outcome) suits =
+      let fits = suits_fit holding time.timebases timeout.Check outcome suits in
+      (outcome_moves time.timebases task now timeout.Check outcome fits, stays time.timers, (goes_on refl (outcome_waits time.timebases task now timeout.Check outcome fits)).0)
+  done_goes holding (OnTimers outcome) suits = by_timers holding outcome time.timebases suits (stays time.timebases)
+  done_goes holding (OnBoth outcome writes) suits =
+      let reply = (carried_out time.timers task now outcome).0 in
+      by_timers holding outcome (across reply writes time.timebases) suits (across_moves reply writes time.timebases)
+  done_goes holding (Advance to) suits =
+      either Goes (nat_lt time.moment.ms to) _ _ (stays time.timebases, stays time.timers, refl) (stays time.timebases, stays time.timers, refl)
+
+  -- so does each call of the part
+  pub time_goes : (made : Call) → Goes (time_step time task now made)
+  time_goes made = done_goes (is_holding made) (time_call time made) (fits made)
 
   -- a refused step leaves the part
   abbrev Keeps : Replied × TimeState → Type 0
@@ -106,22 +111,6 @@ module _ (time : TimeState) (task : ℕ) (now : Moment) where
   -- a refused call of the part leaves it
   pub time_keeps : (made : Call) → Keeps (time_step time task now made)
   time_keeps made = done_keeps (time_call time made)
-
-  -- a step of the part does not answer that it waits
-  abbrev Answers : Replied × TimeState → Type 0
-  Answers stepped = is_waits stepped.0.answer ≡ false
-
-  done_answers : (holding : Bool) (made : TimeCall) → SuitsCall holding made → Answers (done time task now made)
-  done_answers holding (OnTimebases outcome) fits =
-      (goes_on refl (outcome_waits time.timebases task now timeout.Check outcome (suits_fit holding time.timebases timeout.Check outcome fits))).0
-  done_answers holding (OnTimers outcome) fits = (goes_on refl (outcome_waits time.timers task now timeout.Check outcome (suits_fit holding time.timers timeout.Check outcome fits))).0
-  done_answers holding (OnBoth outcome writes) fits =
-      (goes_on refl (outcome_waits time.timers task now timeout.Check outcome (suits_fit holding time.timers timeout.Check outcome fits))).0
-  done_answers holding (Advance to) fits = either Answers (nat_lt time.moment.ms to) _ _ refl refl
-
-  -- a call of the part does not answer that it waits
-  pub time_answers : (made : Call) → Answers (time_step time task now made)
-  time_answers made = done_answers (is_holding made) (time_call time made) (fits made)
 
   -- the identifier of a timebase, and that of a timer, that a call looks at
   abbrev looks_for_timebase : TimeCall → Option ℕ
