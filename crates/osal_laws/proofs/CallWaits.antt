@@ -1,6 +1,7 @@
 -- What a call does to the open waits of the machine.
 use Rattle.std.proofs.Common.{◌≡◌, ◌≤◌, ◌<◌, ℕ, true, false, cond, inl, inr, sym, ap, subst, ◌∙◌, arith}
 use Rattle.std.proofs.lemmas.Bool.{cases_eq, cases_lt, false≢true, false_from_ne_true, lt-ltb, le-ltb, ne_eqb}
+use Rattle.std.proofs.lemmas.Bool.Decides.{nat_tests}
 use Rattle.osal_base.specs.declared.time.Moment.{Moment}
 use Rattle.osal_base.specs.Reply.{Replied, is_waits}
 use Rattle.osal_base.specs.Time.{is_check}
@@ -8,12 +9,12 @@ use Rattle.osal_object.proofs.OpenWaits.{SameWaits, same_waits, IsClosed}
 use Rattle.osal_object.proofs.WaitSteps.{IsWaitStep, IsWaitEnd, Refuses, goes_on}
 use Rattle.osal_task.specs.Tasks.{TaskState}
 use Rattle.osal_call.specs.Call.{part_of, part_of_wait}
-use Rattle.osal_machine.specs.Parts.{part_step}
+use Rattle.osal_machine.specs.Parts.{Absent, part_step}
 use Rattle.osal_machine.specs.Step.{MachineState, part_in, step}
 use Rattle.osal_machine.specs.OpenWaits.{has_wait, WaitsOnce}
 use Rattle.osal_call.specs.declared.call.Call.{Call}
 use Rattle.osal_call.specs.declared.call.Call.TheVariants as call
-use Rattle.osal_laws.proofs.Own.{own_step, other_kept, by_number}
+use Rattle.osal_laws.proofs.Own.{own_step, other_kept}
 use Rattle.osal_laws.proofs.Known.{known_strays}
 use Rattle.osal_laws.proofs.TaskKnown.{tasks_known}
 use Rattle.osal_laws.proofs.KnownParts.{seen_in, known_part}
@@ -57,10 +58,17 @@ module _ (state : MachineState) (task : ℕ) (now : Moment) (made : Call) where
         | inr ne ↦ subst (λ p. WaitsOnce p other) (sym (other_kept state task now made part ne)) once
       ]
 
+-- no part has a number above 8
+none_far : (state : MachineState) (part : ℕ) → 8 < part → part_in part state ≡ Absent
+none_far state part far = grind (arith, nat_tests)
+
 -- a part in which a task waits has a number of a part
 pub near_part : (state : MachineState) (task part : ℕ) → has_wait (part_in part state) task ≡ true → part ≤ 8
-near_part state task part =
-    by_number (λ n p. has_wait p task ≡ true → n ≤ 8) state (λ some. omega arith) (λ some. omega arith) (λ some. omega arith) (λ some. omega arith) (λ some. omega arith) (λ some. omega arith) (λ some. omega arith) (λ some. omega arith) (λ some. omega arith) (λ n some. absurd (false≢true some)) part
+near_part state task part some =
+    elim (cases_lt 8 part) [
+      | inl far ↦ absurd (false≢true (ap (λ p. has_wait p task) (sym (none_far state part far)) ∙ some))
+      | inr near ↦ near
+    ]
 
 -- a wait in a part is of that part
 pub of_near : (part : ℕ) → part ≤ 8 → part_of_wait part ≡ part
