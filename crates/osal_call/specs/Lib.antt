@@ -1,7 +1,9 @@
 pub use Rattle.osal_base.specs.Identifier
 pub use Rattle.osal_base.specs.Text
 pub use Rattle.osal_base.specs.Reply
+pub mod Argument
 pub mod Signature
+pub mod Shapes
 pub mod Call
 pub mod Journal
 pub mod Firing

@@ -1,6 +1,6 @@
 -- What each call of the machine is: one row a call. Behind them the calls that a line of an application may make, by the
--- shape of their arguments, with their words.
-use Rattle.std.specs.Prelude.{◌==◌, ◌&&◌, ◌||◌, ℕ, Bool, true, false, List, [], ◌∷◌, Option, Some, None, codes, is_some, length, nat_lt, if◌then◌else◌}
+-- shape of their arguments, with their words; and what says each call, its name and its arguments.
+use Rattle.std.specs.Prelude.{◌==◌, ◌++◌, ◌&&◌, ◌||◌, ℕ, Bool, true, false, List, [], ◌∷◌, Option, Some, None, codes, is_some, length, nat_lt, if◌then◌else◌}
 use Rattle.std.specs.List.{find}
 use Rattle.std.specs.Str.{bytes_eq}
 use Rattle.osal_base.specs.declared.time.Timeout.{Timeout}
@@ -8,25 +8,26 @@ use Rattle.osal_base.specs.declared.time.Timeout.TheVariants as timeout
 use Rattle.osal_base.specs.Identifier.{type_of}
 use Rattle.osal_base.specs.Name.{name_fault}
 use Rattle.osal_base.specs.Limits.{lowest_priority}
-use Rattle.osal_base.specs.Text.{Text}
+use Rattle.osal_base.specs.Text.{Text as Bytes}
+use Rattle.osal_call.specs.Argument.{Argument, Text, Id, Number, Offset, Wait, Flags, Use, From, Kind, Ways, Ready, Streams as StreamSet}
 use Rattle.osal_call.specs.declared.call.Call.{Call}
 use Rattle.osal_call.specs.declared.call.Call.TheVariants as call
-use Rattle.osal_call.specs.declared.word.ObjectWord.{ObjectWord}
-use Rattle.osal_call.specs.declared.word.ObjectWord.TheVariants as object
-use Rattle.osal_call.specs.declared.word.NameWord.{NameWord}
-use Rattle.osal_call.specs.declared.word.NameWord.TheVariants as name_word
-use Rattle.osal_call.specs.declared.word.WaitWord.{WaitWord}
-use Rattle.osal_call.specs.declared.word.WaitWord.TheVariants as wait_word
-use Rattle.osal_call.specs.declared.word.ValueWord.{ValueWord}
-use Rattle.osal_call.specs.declared.word.ValueWord.TheVariants as value_word
-use Rattle.osal_call.specs.declared.word.NumberWord.{NumberWord}
-use Rattle.osal_call.specs.declared.word.NumberWord.TheVariants as number_word
-use Rattle.osal_call.specs.declared.word.PathWord.{PathWord}
-use Rattle.osal_call.specs.declared.word.PathWord.TheVariants as path_word
-use Rattle.osal_call.specs.declared.word.PathsWord.{PathsWord}
-use Rattle.osal_call.specs.declared.word.PathsWord.TheVariants as paths_word
-use Rattle.osal_call.specs.declared.word.BareWord.{BareWord}
-use Rattle.osal_call.specs.declared.word.BareWord.TheVariants as bare_word
+use Rattle.osal_call.specs.declared.word.object.ObjectWord.{ObjectWord}
+use Rattle.osal_call.specs.declared.word.object.ObjectWord.TheVariants as object
+use Rattle.osal_call.specs.declared.word.text.NameWord.{NameWord}
+use Rattle.osal_call.specs.declared.word.text.NameWord.TheVariants as name_word
+use Rattle.osal_call.specs.declared.word.pair.WaitWord.{WaitWord}
+use Rattle.osal_call.specs.declared.word.pair.WaitWord.TheVariants as wait_word
+use Rattle.osal_call.specs.declared.word.pair.ValueWord.{ValueWord}
+use Rattle.osal_call.specs.declared.word.pair.ValueWord.TheVariants as value_word
+use Rattle.osal_call.specs.declared.word.pair.NumberWord.{NumberWord}
+use Rattle.osal_call.specs.declared.word.pair.NumberWord.TheVariants as number_word
+use Rattle.osal_call.specs.declared.word.text.PathWord.{PathWord}
+use Rattle.osal_call.specs.declared.word.text.PathWord.TheVariants as path_word
+use Rattle.osal_call.specs.declared.word.pair.PathsWord.{PathsWord}
+use Rattle.osal_call.specs.declared.word.pair.PathsWord.TheVariants as paths_word
+use Rattle.osal_call.specs.declared.word.bare.BareWord.{BareWord}
+use Rattle.osal_call.specs.declared.word.bare.BareWord.TheVariants as bare_word
 use Rattle.osal_call.specs.declared.word.CallWord.{CallWord}
 use Rattle.osal_call.specs.declared.word.CallWord.TheVariants as word
 
@@ -302,7 +303,7 @@ object_call object.Hold id = call.Hold id
 object_call object.Release id = call.Release id
 
 -- the call with a name
-abbrev pub name_call : NameWord → Text → Call
+abbrev pub name_call : NameWord → Bytes → Call
 name_call name_word.TaskFind text = call.TaskFind text
 name_call name_word.QueueFind text = call.QueueFind text
 name_call name_word.CountSemFind text = call.CountSemFind text
@@ -323,7 +324,7 @@ wait_call wait_word.BinSemTake id until = call.BinSemTake id until
 wait_call wait_word.CondvarWait id until = call.CondvarWait id until
 
 -- the call with a name and a value
-abbrev pub value_call : ValueWord → Text → ℕ → Call
+abbrev pub value_call : ValueWord → Bytes → ℕ → Call
 value_call value_word.CountSemCreate text initial = call.CountSemCreate text initial
 value_call value_word.BinSemCreate text initial = call.BinSemCreate text initial
 
@@ -335,7 +336,7 @@ number_call number_word.SocketBind id amount = call.SocketBind id amount
 number_call number_word.SocketConnect id amount = call.SocketConnect id amount
 
 -- the call with a path or a device
-abbrev pub path_call : PathWord → Text → Call
+abbrev pub path_call : PathWord → Bytes → Call
 path_call path_word.Unmount text = call.Unmount text
 path_call path_word.Rmfs text = call.Rmfs text
 path_call path_word.StatVolume text = call.StatVolume text
@@ -345,7 +346,7 @@ path_call path_word.Mkdir text = call.Mkdir text
 path_call path_word.Rmdir text = call.Rmdir text
 
 -- the call with two paths, or a device and a path
-abbrev pub paths_call : PathsWord → Text → Text → Call
+abbrev pub paths_call : PathsWord → Bytes → Bytes → Call
 paths_call paths_word.Mount text to = call.Mount text to
 paths_call paths_word.Rename text to = call.Rename text to
 paths_call paths_word.Cp text to = call.Cp text to
@@ -475,9 +476,9 @@ word_text word.SelectOne = codes "select_one"
 word_text word.SelectMulti = codes "select_multi"
 word_text word.ConsoleWrite = codes "console_write"
 
--- the calls that a line may make
-abbrev pub call_words : List CallWord
-call_words =
+-- the calls with an identifier alone that a line may make
+abbrev pub object_words : List CallWord
+object_words =
     word.Object object.TaskDelete ∷ word.Object object.TaskInfo ∷ word.Object object.QueueDelete
     ∷ word.Object object.QueueInfo ∷ word.Object object.CountSemGive ∷ word.Object object.CountSemDelete
     ∷ word.Object object.CountSemInfo ∷ word.Object object.BinSemGive ∷ word.Object object.BinSemFlush
@@ -487,24 +488,205 @@ call_words =
     ∷ word.Object object.CondvarBroadcast ∷ word.Object object.CondvarDelete
     ∷ word.Object object.TimebaseFreeRun ∷ word.Object object.TimebaseDelete ∷ word.Object object.TimerDelete
     ∷ word.Object object.TimerInfo ∷ word.Object object.Close ∷ word.Object object.DirRead
-    ∷ word.Object object.DirRewind ∷ word.Object object.DirClose ∷ word.Object object.SocketListen ∷ word.Object object.Hold
-    ∷ word.Object object.Release
-    ∷ word.Name name_word.TaskFind ∷ word.Name name_word.QueueFind ∷ word.Name name_word.CountSemFind
+    ∷ word.Object object.DirRewind ∷ word.Object object.DirClose ∷ word.Object object.SocketListen
+    ∷ word.Object object.Hold ∷ word.Object object.Release ∷ []
+
+-- those with a name or a path alone, whose success gives an identifier
+abbrev pub name_words : List CallWord
+name_words =
+    word.Name name_word.TaskFind ∷ word.Name name_word.QueueFind ∷ word.Name name_word.CountSemFind
     ∷ word.Name name_word.BinSemFind ∷ word.Name name_word.MutSemCreate ∷ word.Name name_word.MutSemFind
-    ∷ word.Name name_word.CondvarCreate ∷ word.Name name_word.CondvarFind ∷ word.Name name_word.TimebaseCreate
-    ∷ word.Name name_word.TimebaseFind ∷ word.Name name_word.TimerFind ∷ word.Name name_word.DirOpen ∷ word.Wait wait_word.CountSemTake
-    ∷ word.Wait wait_word.BinSemTake ∷ word.Wait wait_word.CondvarWait ∷ word.Value value_word.CountSemCreate
-    ∷ word.Value value_word.BinSemCreate ∷ word.Number number_word.TaskSetPriority ∷ word.Number number_word.TimebaseTick
-    ∷ word.Number number_word.SocketBind ∷ word.Number number_word.SocketConnect
-    ∷ word.Path path_word.Unmount ∷ word.Path path_word.Rmfs ∷ word.Path path_word.StatVolume
-    ∷ word.Path path_word.Remove ∷ word.Path path_word.Stat ∷ word.Path path_word.Mkdir ∷ word.Path path_word.Rmdir
-    ∷ word.Paths paths_word.Mount ∷ word.Paths paths_word.Rename ∷ word.Paths paths_word.Cp
-    ∷ word.Bare bare_word.ConsoleEnable ∷ word.Bare bare_word.ConsoleDisable
-    ∷ word.TaskCreate ∷ word.TaskExit ∷ word.TaskDelay ∷ word.QueueCreate ∷ word.QueuePut ∷ word.QueueGet
+    ∷ word.Name name_word.CondvarCreate ∷ word.Name name_word.CondvarFind
+    ∷ word.Name name_word.TimebaseCreate ∷ word.Name name_word.TimebaseFind ∷ word.Name name_word.TimerFind
+    ∷ word.Name name_word.DirOpen ∷ []
+
+-- those with an identifier and a wait
+abbrev pub wait_words : List CallWord
+wait_words =
+    word.Wait wait_word.CountSemTake ∷ word.Wait wait_word.BinSemTake ∷ word.Wait wait_word.CondvarWait ∷ []
+
+-- those with a name and a value
+abbrev pub value_words : List CallWord
+value_words =
+    word.Value value_word.CountSemCreate ∷ word.Value value_word.BinSemCreate ∷ []
+
+-- those with an identifier and a number
+abbrev pub number_words : List CallWord
+number_words =
+    word.Number number_word.TaskSetPriority ∷ word.Number number_word.TimebaseTick
+    ∷ word.Number number_word.SocketBind ∷ word.Number number_word.SocketConnect ∷ []
+
+-- those with a path or a device alone
+abbrev pub path_words : List CallWord
+path_words =
+    word.Path path_word.Unmount ∷ word.Path path_word.Rmfs ∷ word.Path path_word.StatVolume
+    ∷ word.Path path_word.Remove ∷ word.Path path_word.Stat ∷ word.Path path_word.Mkdir
+    ∷ word.Path path_word.Rmdir ∷ []
+
+-- those with two paths
+abbrev pub paths_words : List CallWord
+paths_words =
+    word.Paths paths_word.Mount ∷ word.Paths paths_word.Rename ∷ word.Paths paths_word.Cp ∷ []
+
+-- those without arguments
+abbrev pub bare_words : List CallWord
+bare_words =
+    word.Bare bare_word.ConsoleEnable ∷ word.Bare bare_word.ConsoleDisable ∷ []
+
+-- those of none of these shapes
+abbrev pub other_words : List CallWord
+other_words =
+    word.TaskCreate ∷ word.TaskExit ∷ word.TaskDelay ∷ word.QueueCreate ∷ word.QueuePut ∷ word.QueueGet
     ∷ word.TimerAdd ∷ word.TimerSet ∷ word.Mkfs ∷ word.Open ∷ word.Read ∷ word.Write ∷ word.Lseek
-    ∷ word.SocketOpen ∷ word.SocketAccept ∷ word.SocketSend ∷ word.SocketRecv ∷ word.SocketShutdown ∷ word.SelectOne
-    ∷ word.SelectMulti ∷ word.ConsoleWrite ∷ []
+    ∷ word.SocketOpen ∷ word.SocketAccept ∷ word.SocketSend ∷ word.SocketRecv ∷ word.SocketShutdown
+    ∷ word.SelectOne ∷ word.SelectMulti ∷ word.ConsoleWrite ∷ []
+
+-- the calls that a line may make
+abbrev pub call_words : List CallWord
+call_words =
+    object_words ++ name_words ++ wait_words ++ value_words ++ number_words ++ path_words ++ paths_words ++ bare_words
+    ++ other_words
 
 -- the call that a word names
 abbrev pub call_word : List ℕ → Option CallWord
 call_word text = find (λ word. bytes_eq text (word_text word)) call_words
+
+-- a call by its name and its arguments
+pub record Spelled : Type 0 where
+  pub name : List ℕ
+  pub arguments : List Argument
+
+-- a call that a line may make
+abbrev pub of_word : CallWord → List Argument → Spelled
+of_word called arguments = record { name = word_text called; arguments = arguments }
+
+-- a call on an object
+abbrev pub of_object : ObjectWord → ℕ → Spelled
+of_object called id = of_word (word.Object called) (Id id ∷ [])
+
+-- a call with a name
+abbrev pub of_name : NameWord → Bytes → Spelled
+of_name called name = of_word (word.Name called) (Text name.bytes ∷ [])
+
+-- a call on an object, with a wait
+abbrev pub of_wait : WaitWord → ℕ → Timeout → Spelled
+of_wait called id wait = of_word (word.Wait called) (Id id ∷ Wait wait ∷ [])
+
+-- a call with a name and a value
+abbrev pub of_value : ValueWord → Bytes → ℕ → Spelled
+of_value called name value = of_word (word.Value called) (Text name.bytes ∷ Number value ∷ [])
+
+-- a call on an object, with a number
+abbrev pub of_number : NumberWord → ℕ → ℕ → Spelled
+of_number called id number = of_word (word.Number called) (Id id ∷ Number number ∷ [])
+
+-- a call with a path or a device
+abbrev pub of_path : PathWord → Bytes → Spelled
+of_path called path = of_word (word.Path called) (Text path.bytes ∷ [])
+
+-- a call with two paths
+abbrev pub of_paths : PathsWord → Bytes → Bytes → Spelled
+of_paths called path to = of_word (word.Paths called) (Text path.bytes ∷ Text to.bytes ∷ [])
+
+-- a call without arguments
+abbrev pub of_bare : BareWord → Spelled
+of_bare called = of_word (word.Bare called) []
+
+-- how each call is spelled
+abbrev pub spelled : Call → Spelled
+spelled (call.TaskDelete id) = of_object object.TaskDelete id
+spelled (call.TaskInfo id) = of_object object.TaskInfo id
+spelled (call.QueueDelete id) = of_object object.QueueDelete id
+spelled (call.QueueInfo id) = of_object object.QueueInfo id
+spelled (call.CountSemGive id) = of_object object.CountSemGive id
+spelled (call.CountSemDelete id) = of_object object.CountSemDelete id
+spelled (call.CountSemInfo id) = of_object object.CountSemInfo id
+spelled (call.BinSemGive id) = of_object object.BinSemGive id
+spelled (call.BinSemFlush id) = of_object object.BinSemFlush id
+spelled (call.BinSemDelete id) = of_object object.BinSemDelete id
+spelled (call.BinSemInfo id) = of_object object.BinSemInfo id
+spelled (call.MutSemTake id) = of_object object.MutSemTake id
+spelled (call.MutSemGive id) = of_object object.MutSemGive id
+spelled (call.MutSemDelete id) = of_object object.MutSemDelete id
+spelled (call.MutSemInfo id) = of_object object.MutSemInfo id
+spelled (call.CondvarLock id) = of_object object.CondvarLock id
+spelled (call.CondvarUnlock id) = of_object object.CondvarUnlock id
+spelled (call.CondvarSignal id) = of_object object.CondvarSignal id
+spelled (call.CondvarBroadcast id) = of_object object.CondvarBroadcast id
+spelled (call.CondvarDelete id) = of_object object.CondvarDelete id
+spelled (call.TimebaseFreeRun id) = of_object object.TimebaseFreeRun id
+spelled (call.TimebaseDelete id) = of_object object.TimebaseDelete id
+spelled (call.TimerDelete id) = of_object object.TimerDelete id
+spelled (call.TimerInfo id) = of_object object.TimerInfo id
+spelled (call.Close id) = of_object object.Close id
+spelled (call.DirRead id) = of_object object.DirRead id
+spelled (call.DirRewind id) = of_object object.DirRewind id
+spelled (call.DirClose id) = of_object object.DirClose id
+spelled (call.SocketListen id) = of_object object.SocketListen id
+spelled (call.Hold id) = of_object object.Hold id
+spelled (call.Release id) = of_object object.Release id
+spelled (call.TaskFind name) = of_name name_word.TaskFind name
+spelled (call.QueueFind name) = of_name name_word.QueueFind name
+spelled (call.CountSemFind name) = of_name name_word.CountSemFind name
+spelled (call.BinSemFind name) = of_name name_word.BinSemFind name
+spelled (call.MutSemCreate name) = of_name name_word.MutSemCreate name
+spelled (call.MutSemFind name) = of_name name_word.MutSemFind name
+spelled (call.CondvarCreate name) = of_name name_word.CondvarCreate name
+spelled (call.CondvarFind name) = of_name name_word.CondvarFind name
+spelled (call.TimebaseCreate name) = of_name name_word.TimebaseCreate name
+spelled (call.TimebaseFind name) = of_name name_word.TimebaseFind name
+spelled (call.TimerFind name) = of_name name_word.TimerFind name
+spelled (call.DirOpen name) = of_name name_word.DirOpen name
+spelled (call.CountSemTake id wait) = of_wait wait_word.CountSemTake id wait
+spelled (call.BinSemTake id wait) = of_wait wait_word.BinSemTake id wait
+spelled (call.CondvarWait id wait) = of_wait wait_word.CondvarWait id wait
+spelled (call.CountSemCreate name value) = of_value value_word.CountSemCreate name value
+spelled (call.BinSemCreate name value) = of_value value_word.BinSemCreate name value
+spelled (call.TaskSetPriority id number) = of_number number_word.TaskSetPriority id number
+spelled (call.TimebaseTick id number) = of_number number_word.TimebaseTick id number
+spelled (call.SocketBind id number) = of_number number_word.SocketBind id number
+spelled (call.SocketConnect id number) = of_number number_word.SocketConnect id number
+spelled (call.Unmount path) = of_path path_word.Unmount path
+spelled (call.Rmfs path) = of_path path_word.Rmfs path
+spelled (call.StatVolume path) = of_path path_word.StatVolume path
+spelled (call.Remove path) = of_path path_word.Remove path
+spelled (call.Stat path) = of_path path_word.Stat path
+spelled (call.Mkdir path) = of_path path_word.Mkdir path
+spelled (call.Rmdir path) = of_path path_word.Rmdir path
+spelled (call.Mount path to) = of_paths paths_word.Mount path to
+spelled (call.Rename path to) = of_paths paths_word.Rename path to
+spelled (call.Cp path to) = of_paths paths_word.Cp path to
+spelled call.ConsoleEnable = of_bare bare_word.ConsoleEnable
+spelled call.ConsoleDisable = of_bare bare_word.ConsoleDisable
+spelled (call.TaskCreate name body stack priority) =
+    of_word word.TaskCreate (Text name.bytes ∷ Number body ∷ Number stack ∷ Number priority ∷ [])
+spelled call.TaskExit = of_word word.TaskExit []
+spelled (call.TaskDelay ms) = of_word word.TaskDelay (Number ms ∷ [])
+spelled call.Checkpoint = record { name = codes "checkpoint"; arguments = [] }
+spelled (call.QueueCreate name depth size) =
+    of_word word.QueueCreate (Text name.bytes ∷ Number depth ∷ Number size ∷ [])
+spelled (call.QueuePut id payload) = of_word word.QueuePut (Id id ∷ Text payload.bytes ∷ [])
+spelled (call.QueueGet id n wait) = of_word word.QueueGet (Id id ∷ Number n ∷ Wait wait ∷ [])
+spelled (call.TimerAdd name timebase handler) =
+    of_word word.TimerAdd (Text name.bytes ∷ Id timebase ∷ Number handler ∷ [])
+spelled (call.TimerSet id start interval) = of_word word.TimerSet (Id id ∷ Number start ∷ Number interval ∷ [])
+spelled (call.Advance to) = record { name = codes "advance"; arguments = Number to ∷ [] }
+spelled (call.Mkfs device label blocks) =
+    of_word word.Mkfs (Text device.bytes ∷ Text label.bytes ∷ Number blocks ∷ [])
+spelled (call.Open path flags access) = of_word word.Open (Text path.bytes ∷ Flags flags ∷ Use access ∷ [])
+spelled (call.Read id n wait) = of_word word.Read (Id id ∷ Number n ∷ Wait wait ∷ [])
+spelled (call.Write id payload) = of_word word.Write (Id id ∷ Text payload.bytes ∷ [])
+spelled (call.Lseek id offset whence) = of_word word.Lseek (Id id ∷ Offset offset ∷ From whence ∷ [])
+spelled (call.SocketOpen kind) = of_word word.SocketOpen (Kind kind ∷ [])
+spelled (call.SocketAccept id wait) = of_word word.SocketAccept (Id id ∷ Wait wait ∷ [])
+spelled (call.SocketSend id payload port) =
+    of_word word.SocketSend (Id id ∷ Text payload.bytes ∷ Number port ∷ [])
+spelled (call.SocketRecv id n wait) = of_word word.SocketRecv (Id id ∷ Number n ∷ Wait wait ∷ [])
+spelled (call.SocketShutdown id how) = of_word word.SocketShutdown (Id id ∷ Ways how ∷ [])
+spelled (call.SelectOne id mode wait) = of_word word.SelectOne (Id id ∷ Ready mode ∷ Wait wait ∷ [])
+spelled (call.SelectMulti reads writes wait) =
+    of_word word.SelectMulti (StreamSet reads ∷ StreamSet writes ∷ Wait wait ∷ [])
+spelled (call.ConsoleWrite payload) = of_word word.ConsoleWrite (Text payload.bytes ∷ [])
+spelled (call.Drain n) = record { name = codes "drain"; arguments = Number n ∷ [] }
+spelled (call.WaitEnd part) = record { name = codes "wait_end"; arguments = Number part ∷ [] }
+spelled (call.WaitAbandon part) = record { name = codes "wait_abandon"; arguments = Number part ∷ [] }

@@ -1,30 +1,11 @@
-//! The arguments of calls, and how each is spelled.
+//! How each argument of a call is spelled.
 ghost use Rattle.std.specs.Prelude.{◌≡◌, ◌++◌, map, OnOk};
 ghost use Rattle.osal_journal.specs.Spelled.{wait_text as text_of_wait, flags_text as text_of_flags, access_text as text_of_access, whence_text as text_of_whence, kind_text as text_of_kind, ways_text as text_of_ways, ready_text as text_of_ready, streams_text, more_streams_text, argument_text, arguments_text};
-ghost use Rattle.osal_journal.specs.Shapes.{meant};
+ghost use Rattle.osal_call.specs.Shapes.{meant};
 
-use osal_base::{
-    Access, Bytes, How, Mode, OpenFlags, OsalId, OutOfMemory, SockKind, Timeout, Whence,
-};
-use osal_select::BoxedSet;
+use osal_base::{Access, How, Mode, OpenFlags, OutOfMemory, SockKind, Timeout, Whence};
+use osal_call::Argument;
 use osal_spelling::{push_bytes, push_decimal, push_id, push_quoted, push_signed};
-
-/// An argument of a call.
-#[derive(Clone, Copy)]
-pub(crate) enum Argument<'a> {
-    Text(&'a Bytes),
-    Id(OsalId),
-    Number(u64),
-    Offset(i64),
-    Wait(Timeout),
-    Flags(OpenFlags),
-    Access(Access),
-    Whence(Whence),
-    Kind(SockKind),
-    How(How),
-    Mode(Mode),
-    Streams(&'a BoxedSet),
-}
 
 /// Appends how long a call may wait: `check`, `pend`, or the milliseconds.
 ///
@@ -146,7 +127,8 @@ fn push_argument(out: &mut Vec<u8>, argument: &Argument) -> Result<(), OutOfMemo
     }
 }
 
-fn push_arguments(out: &mut Vec<u8>, arguments: &[Argument]) -> Result<(), OutOfMemory>
+/// Appends some arguments, each behind a space.
+pub(crate) fn push_arguments(out: &mut Vec<u8>, arguments: &[Argument]) -> Result<(), OutOfMemory>
     ensures { OnOk result (out.new.items ≡ out.old.items ++ arguments_text (map meant arguments.now)) }
 {
     for argument in arguments {
@@ -154,17 +136,4 @@ fn push_arguments(out: &mut Vec<u8>, arguments: &[Argument]) -> Result<(), OutOf
         push_argument(out, argument)?;
     }
     Ok(())
-}
-
-/// Appends a name, and behind it some arguments, each behind a space.
-pub(crate) fn push_spelled(
-    out: &mut Vec<u8>,
-    name: &[u8],
-    arguments: &[Argument],
-) -> Result<(), OutOfMemory>
-    ensures { OnOk result (out.new.items
-        ≡ out.old.items ++ (name.now ++ arguments_text (map meant arguments.now))) }
-{
-    push_bytes(out, name)?;
-    push_arguments(out, arguments)
 }

@@ -5,7 +5,6 @@
 
 mod argument;
 mod entry;
-mod shape;
 mod spelled;
 mod text;
 mod write;

@@ -10,9 +10,9 @@ use Rattle.osal_base.specs.declared.arguments.Mode.{Mode}
 use Rattle.osal_base.specs.declared.time.Timeout.{Timeout}
 use Rattle.osal_call.specs.declared.word.CallWord.{CallWord}
 use Rattle.osal_call.specs.declared.word.CallWord.TheVariants as word
-use Rattle.osal_call.specs.declared.word.PathWord.{PathWord}
-use Rattle.osal_call.specs.declared.word.PathsWord.{PathsWord}
-use Rattle.osal_call.specs.declared.word.BareWord.{BareWord}
+use Rattle.osal_call.specs.declared.word.text.PathWord.{PathWord}
+use Rattle.osal_call.specs.declared.word.pair.PathsWord.{PathsWord}
+use Rattle.osal_call.specs.declared.word.bare.BareWord.{BareWord}
 use Rattle.osal_line.specs.declared.kind.BodyKind.{BodyKind}
 use Rattle.osal_line.specs.declared.kind.BodyKind.TheVariants as kind
 use Rattle.osal_line.specs.declared.line.ScriptCall.{ScriptCall}

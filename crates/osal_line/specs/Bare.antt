@@ -2,8 +2,8 @@
 use Rattle.std.specs.Prelude.{◌≡◌, Bool, true, false}
 use Rattle.osal_call.specs.declared.word.CallWord.{CallWord}
 use Rattle.osal_call.specs.declared.word.CallWord.TheVariants as word
-use Rattle.osal_call.specs.declared.word.NumberWord.{NumberWord}
-use Rattle.osal_call.specs.declared.word.NumberWord.TheVariants as number
+use Rattle.osal_call.specs.declared.word.pair.NumberWord.{NumberWord}
+use Rattle.osal_call.specs.declared.word.pair.NumberWord.TheVariants as number
 use Rattle.osal_line.specs.declared.line.ScriptCall.{ScriptCall}
 use Rattle.osal_line.specs.declared.line.ScriptCall.TheVariants as script
 

@@ -1,6 +1,6 @@
 -- The call lines on the console.
 use Rattle.std.specs.Prelude.{List, [], ◌∷◌, ℕ, Option, Some, None, option_map}
-use Rattle.osal_call.specs.declared.word.BareWord.{BareWord}
+use Rattle.osal_call.specs.declared.word.bare.BareWord.{BareWord}
 use Rattle.osal_line.specs.declared.line.ScriptCall.{ScriptCall}
 use Rattle.osal_line.specs.declared.line.ScriptCall.TheVariants as script
 use Rattle.osal_line.specs.Payload.{payload_of}

@@ -2,8 +2,8 @@
 use Rattle.std.specs.Prelude.{◌^◌, List, [], ◌∷◌, ℕ, Option, Some, None, option_map}
 use Rattle.osal_base.specs.declared.arguments.OpenFlags.{OpenFlags}
 use Rattle.osal_base.specs.declared.arguments.Access.{Access}
-use Rattle.osal_call.specs.declared.word.PathWord.{PathWord}
-use Rattle.osal_call.specs.declared.word.PathsWord.{PathsWord}
+use Rattle.osal_call.specs.declared.word.text.PathWord.{PathWord}
+use Rattle.osal_call.specs.declared.word.pair.PathsWord.{PathsWord}
 use Rattle.osal_line.specs.declared.line.ScriptCall.{ScriptCall}
 use Rattle.osal_line.specs.declared.line.ScriptCall.TheVariants as script
 use Rattle.osal_line.specs.Values.{number_below, string_of}

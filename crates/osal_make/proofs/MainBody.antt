@@ -6,9 +6,9 @@ use Rattle.std.proofs.lemmas.List.{append-nil}
 use Rattle.osal_base.specs.declared.status.Status.TheVariants as status
 use Rattle.osal_base.specs.declared.time.Timeout.TheVariants as timeout
 use Rattle.osal_call.specs.declared.word.CallWord.TheVariants as word
-use Rattle.osal_call.specs.declared.word.ObjectWord.TheVariants as object
-use Rattle.osal_call.specs.declared.word.ValueWord.TheVariants as value_word
-use Rattle.osal_call.specs.declared.word.WaitWord.TheVariants as wait_word
+use Rattle.osal_call.specs.declared.word.object.ObjectWord.TheVariants as object
+use Rattle.osal_call.specs.declared.word.pair.ValueWord.TheVariants as value_word
+use Rattle.osal_call.specs.declared.word.pair.WaitWord.TheVariants as wait_word
 use Rattle.osal_line.specs.declared.kind.BodyKind.{BodyKind}
 use Rattle.osal_line.specs.declared.kind.BodyKind.TheVariants as kind
 use Rattle.osal_line.specs.declared.line.ScriptCall.TheVariants as script

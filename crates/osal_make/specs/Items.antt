@@ -4,10 +4,10 @@ use Rattle.osal_base.specs.declared.status.Status.{Status}
 use Rattle.osal_base.specs.declared.status.Status.TheVariants as status
 use Rattle.osal_base.specs.declared.time.Timeout.TheVariants as timeout
 use Rattle.osal_base.specs.Status.{number_of}
-use Rattle.osal_call.specs.declared.word.NameWord.TheVariants as name_word
-use Rattle.osal_call.specs.declared.word.ObjectWord.TheVariants as object
-use Rattle.osal_call.specs.declared.word.ValueWord.TheVariants as value_word
-use Rattle.osal_call.specs.declared.word.WaitWord.TheVariants as wait_word
+use Rattle.osal_call.specs.declared.word.text.NameWord.TheVariants as name_word
+use Rattle.osal_call.specs.declared.word.object.ObjectWord.TheVariants as object
+use Rattle.osal_call.specs.declared.word.pair.ValueWord.TheVariants as value_word
+use Rattle.osal_call.specs.declared.word.pair.WaitWord.TheVariants as wait_word
 use Rattle.osal_line.specs.declared.expectation.Value.TheVariants as value
 use Rattle.osal_line.specs.declared.line.ScriptCall.{ScriptCall}
 use Rattle.osal_line.specs.declared.line.ScriptCall.TheVariants as script

@@ -1,8 +1,8 @@
 //! The body of a worker: it passes messages through a queue of its own, and tells that it is done.
 ghost use Rattle.std.specs.Prelude.{◌≡◌, ◌≤◌, IfOk};
 ghost use Rattle.osal_base.specs.declared.time.Timeout.TheVariants as timeout;
-ghost use Rattle.osal_call.specs.declared.word.NameWord.TheVariants as name_word;
-ghost use Rattle.osal_call.specs.declared.word.ObjectWord.TheVariants as object;
+ghost use Rattle.osal_call.specs.declared.word.text.NameWord.TheVariants as name_word;
+ghost use Rattle.osal_call.specs.declared.word.object.ObjectWord.TheVariants as object;
 ghost use Rattle.osal_line.specs.declared.line.ScriptCall.TheVariants as script;
 ghost use Rattle.osal_make.specs.Items as lines;
 ghost use Rattle.osal_make.specs.Made as made;

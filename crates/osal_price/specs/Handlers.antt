@@ -3,9 +3,9 @@ use Rattle.std.specs.Prelude.{Bool, true, false, not}
 use Rattle.osal_base.specs.Time.{is_check}
 use Rattle.osal_call.specs.declared.word.CallWord.{CallWord}
 use Rattle.osal_call.specs.declared.word.CallWord.TheVariants as word
-use Rattle.osal_call.specs.declared.word.ObjectWord.{ObjectWord}
-use Rattle.osal_call.specs.declared.word.WaitWord.{WaitWord}
-use Rattle.osal_call.specs.declared.word.WaitWord.TheVariants as wait
+use Rattle.osal_call.specs.declared.word.object.ObjectWord.{ObjectWord}
+use Rattle.osal_call.specs.declared.word.pair.WaitWord.{WaitWord}
+use Rattle.osal_call.specs.declared.word.pair.WaitWord.TheVariants as wait
 use Rattle.osal_call.specs.Signature.{timeout_of, object_call}
 use Rattle.osal_line.specs.declared.kind.BodyKind.{BodyKind}
 use Rattle.osal_line.specs.declared.kind.BodyKind.TheVariants as kind

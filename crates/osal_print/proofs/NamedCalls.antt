@@ -3,8 +3,8 @@ use Rattle.std.proofs.Common.{◌≡◌, ◌≤◌, ◌^◌, ℕ, List, [], ◌�
 use Rattle.std.specs.List.{list_all}
 use Rattle.std.specs.Fmt.{decimal}
 use Rattle.osal_call.specs.declared.word.CallWord.TheVariants as word
-use Rattle.osal_call.specs.declared.word.NameWord.{NameWord}
-use Rattle.osal_call.specs.declared.word.ValueWord.{ValueWord}
+use Rattle.osal_call.specs.declared.word.text.NameWord.{NameWord}
+use Rattle.osal_call.specs.declared.word.pair.ValueWord.{ValueWord}
 use Rattle.osal_journal.specs.Spelled.{flags_text, access_text}
 use Rattle.osal_line.specs.declared.kind.BodyKind.{BodyKind}
 use Rattle.osal_line.specs.declared.kind.BodyKind.TheVariants as kind

@@ -3,9 +3,9 @@ use Rattle.std.proofs.Common.{◌≡◌, ◌≤◌, ◌^◌, ℕ, List, [], ◌�
 use Rattle.std.specs.Fmt.{decimal, signed_decimal}
 use Rattle.osal_base.specs.declared.time.Timeout.{Timeout}
 use Rattle.osal_call.specs.declared.word.CallWord.TheVariants as word
-use Rattle.osal_call.specs.declared.word.ObjectWord.{ObjectWord}
-use Rattle.osal_call.specs.declared.word.WaitWord.{WaitWord}
-use Rattle.osal_call.specs.declared.word.NumberWord.{NumberWord}
+use Rattle.osal_call.specs.declared.word.object.ObjectWord.{ObjectWord}
+use Rattle.osal_call.specs.declared.word.pair.WaitWord.{WaitWord}
+use Rattle.osal_call.specs.declared.word.pair.NumberWord.{NumberWord}
 use Rattle.osal_journal.specs.Spelled.{wait_text, whence_text}
 use Rattle.osal_line.specs.declared.kind.BodyKind.{BodyKind}
 use Rattle.osal_line.specs.declared.line.ScriptCall.{ScriptCall}

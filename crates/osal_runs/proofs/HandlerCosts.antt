@@ -6,7 +6,7 @@ use Rattle.std.proofs.lemmas.Bool.{cond_both, cond-false, cases_Bool, false≢tr
 use Rattle.osal_base.specs.Limits.{version1}
 use Rattle.osal_base.specs.Reply.{Replied}
 use Rattle.osal_call.specs.Firing.{timer_limit}
-use Rattle.osal_call.specs.declared.word.NumberWord.TheVariants as number_word
+use Rattle.osal_call.specs.declared.word.pair.NumberWord.TheVariants as number_word
 use Rattle.osal_line.specs.declared.kind.BodyKind.{BodyKind}
 use Rattle.osal_line.specs.declared.kind.BodyKind.TheVariants as kind
 use Rattle.osal_line.specs.declared.line.ScriptCall.{ScriptCall}

@@ -5,22 +5,22 @@ use Rattle.osal_base.specs.Text.{Text}
 use Rattle.osal_base.specs.declared.time.Timeout.{Timeout}
 use Rattle.osal_call.specs.declared.call.Call.{Call}
 use Rattle.osal_call.specs.declared.call.Call.TheVariants as call
-use Rattle.osal_call.specs.declared.word.ObjectWord.{ObjectWord}
-use Rattle.osal_call.specs.declared.word.ObjectWord.TheVariants as object
-use Rattle.osal_call.specs.declared.word.NameWord.{NameWord}
-use Rattle.osal_call.specs.declared.word.NameWord.TheVariants as name_word
-use Rattle.osal_call.specs.declared.word.WaitWord.{WaitWord}
-use Rattle.osal_call.specs.declared.word.WaitWord.TheVariants as wait_word
-use Rattle.osal_call.specs.declared.word.ValueWord.{ValueWord}
-use Rattle.osal_call.specs.declared.word.ValueWord.TheVariants as value_word
-use Rattle.osal_call.specs.declared.word.NumberWord.{NumberWord}
-use Rattle.osal_call.specs.declared.word.NumberWord.TheVariants as number_word
-use Rattle.osal_call.specs.declared.word.PathWord.{PathWord}
-use Rattle.osal_call.specs.declared.word.PathWord.TheVariants as path_word
-use Rattle.osal_call.specs.declared.word.PathsWord.{PathsWord}
-use Rattle.osal_call.specs.declared.word.PathsWord.TheVariants as paths_word
-use Rattle.osal_call.specs.declared.word.BareWord.{BareWord}
-use Rattle.osal_call.specs.declared.word.BareWord.TheVariants as bare_word
+use Rattle.osal_call.specs.declared.word.object.ObjectWord.{ObjectWord}
+use Rattle.osal_call.specs.declared.word.object.ObjectWord.TheVariants as object
+use Rattle.osal_call.specs.declared.word.text.NameWord.{NameWord}
+use Rattle.osal_call.specs.declared.word.text.NameWord.TheVariants as name_word
+use Rattle.osal_call.specs.declared.word.pair.WaitWord.{WaitWord}
+use Rattle.osal_call.specs.declared.word.pair.WaitWord.TheVariants as wait_word
+use Rattle.osal_call.specs.declared.word.pair.ValueWord.{ValueWord}
+use Rattle.osal_call.specs.declared.word.pair.ValueWord.TheVariants as value_word
+use Rattle.osal_call.specs.declared.word.pair.NumberWord.{NumberWord}
+use Rattle.osal_call.specs.declared.word.pair.NumberWord.TheVariants as number_word
+use Rattle.osal_call.specs.declared.word.text.PathWord.{PathWord}
+use Rattle.osal_call.specs.declared.word.text.PathWord.TheVariants as path_word
+use Rattle.osal_call.specs.declared.word.pair.PathsWord.{PathsWord}
+use Rattle.osal_call.specs.declared.word.pair.PathsWord.TheVariants as paths_word
+use Rattle.osal_call.specs.declared.word.bare.BareWord.{BareWord}
+use Rattle.osal_call.specs.declared.word.bare.BareWord.TheVariants as bare_word
 use Rattle.osal_call.specs.Signature.{timeout_of, object_call, name_call, wait_call, value_call, number_call, path_call, paths_call, bare_call}
 use Rattle.osal_line.specs.declared.line.ScriptCall.{ScriptCall}
 use Rattle.osal_line.specs.declared.line.ScriptCall.TheVariants as script

@@ -2,7 +2,7 @@
 use Rattle.std.proofs.Common.{◌≡◌, ◌<◌, ◌≤◌, ◌+◌, ◌-◌, ◌∙◌, ℕ, zero, suc, List, [], ◌∷◌, Some, length, take, drop, get_or, set, map, slice_index, slice_get, refl, sym, ap, subst, zero-add, arith}
 use Rattle.std.proofs.lemmas.List.{get_or-take, get_or-drop, drop-set}
 use Rattle.std.specs.List.{AllByRecursion}
-use Rattle.osal_call.specs.declared.word.NumberWord.TheVariants as number_word
+use Rattle.osal_call.specs.declared.word.pair.NumberWord.TheVariants as number_word
 use Rattle.osal_line.specs.declared.line.ScriptCall.{ScriptCall}
 use Rattle.osal_line.specs.declared.line.ScriptCall.TheVariants as script
 use Rattle.osal_line.specs.Between.{NamesBetween}
