@@ -4,9 +4,7 @@ use Rattle.osal_call.specs.declared.argument.Argument.{Argument as Given}
 use Rattle.osal_call.specs.declared.argument.Argument.TheVariants as given
 use Rattle.osal_call.specs.declared.argument.Arguments.{Arguments}
 use Rattle.osal_call.specs.declared.argument.Arguments.TheVariants as some
-use Rattle.osal_call.specs.declared.spelled.Spelled.{Spelled as Said}
 use Rattle.osal_call.specs.Argument.{Argument, Text, Id, Number, Offset, Wait, Flags, Use, From, Kind, Ways, Ready, Streams}
-use Rattle.osal_call.specs.Signature.{Spelled}
 
 -- an argument by what it says
 abbrev pub meant : Given → Argument
@@ -30,10 +28,6 @@ all_meant (some.One first) = meant first ∷ []
 all_meant (some.Two first second) = meant first ∷ meant second ∷ []
 all_meant (some.Three first second third) = meant first ∷ meant second ∷ meant third ∷ []
 all_meant (some.Four first second third fourth) = meant first ∷ meant second ∷ meant third ∷ meant fourth ∷ []
-
--- a call by its name and what its arguments say
-abbrev pub meant_call : Said → Spelled
-meant_call said = record { name = said.name.now; arguments = all_meant said.arguments }
 
 -- whether there is an identifier in front of that many more
 abbrev pub is_id_before : ℕ → List Argument → Bool

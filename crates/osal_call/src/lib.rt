@@ -12,7 +12,7 @@ pub use argument::{Argument, Arguments};
 pub use call::{Call, Entry, part_of, part_of_id};
 pub use firing::{FIRING_LENGTH, TIMER_LIMIT, append_firing, handler_at};
 pub use journal::Journal;
-pub use spelled::{Spelled, spelling_of};
+pub use spelled::spelling_of;
 pub use word::{
     BareWord, CallWord, NameWord, NumberWord, ObjectWord, PathWord, PathsWord, ValueWord, WaitWord,
     call_word,

@@ -1,7 +1,7 @@
 //! What says a call: its name, and its arguments.
 ghost use Rattle.std.specs.Prelude.{◌≡◌, ◌==◌, ◌∷◌, [], false, length, MatchOption};
-ghost use Rattle.osal_call.specs.Argument.{Number as OfNumber};
-ghost use Rattle.osal_call.specs.Shapes.{is_id_before, is_text, is_number, is_bare, meant_call};
+ghost use Rattle.osal_call.specs.Argument.{Number};
+ghost use Rattle.osal_call.specs.Shapes.{is_id_before, is_text, is_number, is_bare, all_meant};
 ghost use Rattle.osal_call.specs.Signature.{spelled};
 
 use crate::argument::{Argument, Arguments};
@@ -9,60 +9,36 @@ use crate::word::{bare_of, object_of, pair_of, text_of, triple_of};
 use crate::{Call, CallWord};
 
 /// The name of a call, and its arguments in their order.
-#[derive(Clone, Copy)]
-pub struct Spelled<'a> {
-    pub name: &'static [u8],
-    pub arguments: Arguments<'a>,
-}
-
-/// What says a call.
-pub fn spelling_of(call: &Call) -> Spelled<'_>
-    ensures { meant_call result ≡ spelled call.now }
+pub fn spelling_of(call: &Call) -> (&'static [u8], Arguments<'_>)
+    ensures { spelled call.now ≡ record { name = result.0.now; arguments = all_meant result.1 } }
 {
     if let Some((word, id)) = object_of(call) {
-        return Spelled {
-            name: word.text(),
-            arguments: Arguments::One(Argument::Id(id)),
-        };
+        return (word.text(), Arguments::One(Argument::Id(id)));
     }
     if let Some((word, text)) = text_of(call) {
-        return Spelled {
-            name: word.text(),
-            arguments: Arguments::One(Argument::Text(text)),
-        };
+        return (word.text(), Arguments::One(Argument::Text(text)));
     }
     if let Some((word, first, second)) = pair_of(call) {
-        return Spelled {
-            name: word.text(),
-            arguments: Arguments::Two(first, second),
-        };
+        return (word.text(), Arguments::Two(first, second));
     }
     if let Some((word, first, second, third)) = triple_of(call) {
-        return Spelled {
-            name: word.text(),
-            arguments: Arguments::Three(first, second, third),
-        };
+        return (word.text(), Arguments::Three(first, second, third));
     }
     if let Some((name, number)) = number_of(call) {
-        return Spelled {
-            name,
-            arguments: Arguments::One(Argument::Number(number)),
-        };
+        return (name, Arguments::One(Argument::Number(number)));
     }
     if let Some(name) = bare_of(call) {
-        return Spelled {
-            name,
-            arguments: Arguments::None,
-        };
+        return (name, Arguments::None);
     }
     other(call)
 }
 
 /// The name and the argument of a call with a number alone.
-pub(crate) fn number_of(call: &Call) -> Option<(&'static [u8], u64)>
+fn number_of(call: &Call) -> Option<(&'static [u8], u64)>
     ensures { MatchOption result
         (is_number (spelled call.now).arguments ≡ false)
-        (λ found. spelled call.now ≡ record { name = found.0.now; arguments = OfNumber found.1 ∷ [] }) }
+        (λ found. spelled call.now
+        ≡ record { name = found.0.now; arguments = Number found.1 ∷ [] }) }
 {
     Some(match call {
         Call::TaskDelay { ms } => (CallWord::TaskDelay.text(), u64::from(*ms)),
@@ -75,14 +51,14 @@ pub(crate) fn number_of(call: &Call) -> Option<(&'static [u8], u64)>
 }
 
 /// The creation of a task, or the opening of a socket.
-fn other(call: &Call) -> Spelled<'_>
+fn other(call: &Call) -> (&'static [u8], Arguments<'_>)
     requires id { is_id_before 0 (spelled call.now).arguments ≡ false }
     requires text { is_text (spelled call.now).arguments ≡ false }
     requires number { is_number (spelled call.now).arguments ≡ false }
     requires bare { is_bare (spelled call.now).arguments ≡ false }
     requires two { (length (spelled call.now).arguments == 2) ≡ false }
     requires three { (length (spelled call.now).arguments == 3) ≡ false }
-    ensures { meant_call result ≡ spelled call.now }
+    ensures { spelled call.now ≡ record { name = result.0.now; arguments = all_meant result.1 } }
 {
     match call {
         Call::TaskCreate {
@@ -90,19 +66,19 @@ fn other(call: &Call) -> Spelled<'_>
             body,
             stack,
             priority,
-        } => Spelled {
-            name: CallWord::TaskCreate.text(),
-            arguments: Arguments::Four(
+        } => (
+            CallWord::TaskCreate.text(),
+            Arguments::Four(
                 Argument::Text(name),
                 Argument::Number(u64::from(*body)),
                 Argument::Number(u64::from(*stack)),
                 Argument::Number(u64::from(*priority)),
             ),
-        },
-        Call::SocketOpen { kind } => Spelled {
-            name: CallWord::SocketOpen.text(),
-            arguments: Arguments::One(Argument::Kind(*kind)),
-        },
+        ),
+        Call::SocketOpen { kind } => (
+            CallWord::SocketOpen.text(),
+            Arguments::One(Argument::Kind(*kind)),
+        ),
         _ => unreachable!(),
     }
 }

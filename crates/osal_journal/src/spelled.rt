@@ -11,9 +11,9 @@ use osal_spelling::push_bytes;
 pub(crate) fn push_call(out: &mut Vec<u8>, call: &Call) -> Result<(), OutOfMemory>
     ensures { OnOk result (out.new.items ≡ out.old.items ++ call_text call.now) }
 {
-    let spelled = spelling_of(call);
-    push_bytes(out, spelled.name)?;
-    match spelled.arguments {
+    let (name, arguments) = spelling_of(call);
+    push_bytes(out, name)?;
+    match arguments {
         Arguments::None => Ok(()),
         Arguments::One(first) => push_arguments(out, &[first]),
         Arguments::Two(first, second) => push_arguments(out, &[first, second]),

@@ -2,6 +2,7 @@
 ghost use Rattle.std.specs.Prelude.{◌≡◌, [], false, MatchOption};
 ghost use Rattle.osal_call.specs.Call.{said};
 ghost use Rattle.osal_call.specs.Shapes.{is_bare};
+ghost use Rattle.osal_call.specs.Signature.{spelled};
 ghost use Rattle.osal_call.specs.Signature as words;
 
 use super::CallWord;
@@ -45,8 +46,8 @@ impl BareWord {
 /// The name of a call without arguments.
 pub(crate) fn bare_of(call: &Call) -> Option<&'static [u8]>
     ensures { MatchOption result
-        (is_bare (words.spelled call.now).arguments ≡ false)
-        (λ found. words.spelled call.now ≡ record { name = found.now; arguments = [] }) }
+        (is_bare (spelled call.now).arguments ≡ false)
+        (λ found. spelled call.now ≡ record { name = found.now; arguments = [] }) }
 {
     Some(match call {
         Call::TaskExit => CallWord::TaskExit.text(),

@@ -2,6 +2,7 @@
 ghost use Rattle.std.specs.Prelude.{◌≡◌, false, MatchOption};
 ghost use Rattle.osal_call.specs.Call.{said};
 ghost use Rattle.osal_call.specs.Shapes.{is_id_before};
+ghost use Rattle.osal_call.specs.Signature.{spelled, of_object};
 ghost use Rattle.osal_call.specs.Signature as words;
 
 use super::CallWord;
@@ -162,8 +163,8 @@ impl ObjectWord {
 /// The word and the argument of a call with an identifier alone.
 pub(crate) fn object_of(call: &Call) -> Option<(ObjectWord, OsalId)>
     ensures { MatchOption result
-        (is_id_before 0 (words.spelled call.now).arguments ≡ false)
-        (λ found. words.spelled call.now ≡ words.of_object found.0 found.1) }
+        (is_id_before 0 (spelled call.now).arguments ≡ false)
+        (λ found. spelled call.now ≡ of_object found.0 found.1) }
 {
     Some(match call {
         Call::TaskDelete { id } => (ObjectWord::TaskDelete, *id),

@@ -3,6 +3,7 @@ ghost use Rattle.std.specs.Prelude.{◌≡◌, ◌==◌, ◌∷◌, [], ℕ, fal
 ghost use Rattle.osal_base.specs.Text.{Text as Said};
 ghost use Rattle.osal_call.specs.Call.{part_of, said, text_of};
 ghost use Rattle.osal_call.specs.Shapes.{is_id_before, meant};
+ghost use Rattle.osal_call.specs.Signature.{spelled, of_word};
 ghost use Rattle.osal_call.specs.Signature as words;
 
 use super::CallWord;
@@ -182,8 +183,8 @@ impl PathsWord {
 
 /// The word and the arguments of a call with two.
 pub(crate) fn pair_of(call: &Call) -> Option<(CallWord, Argument, Argument)>
-    ensures { MatchOption result ((length (words.spelled call.now).arguments == 2) ≡ false)
-        (λ found. words.spelled call.now ≡ words.of_word found.0 (meant found.1 ∷ meant found.2 ∷ [])) }
+    ensures { MatchOption result ((length (spelled call.now).arguments == 2) ≡ false)
+        (λ found. spelled call.now ≡ of_word found.0 (meant found.1 ∷ meant found.2 ∷ [])) }
 {
     Some(match call {
         Call::CountSemCreate { name, value } => (
@@ -209,8 +210,8 @@ pub(crate) fn pair_of(call: &Call) -> Option<(CallWord, Argument, Argument)>
 
 /// The word and the arguments of a call with an identifier and one more.
 fn object_pair_of(call: &Call) -> Option<(CallWord, Argument, Argument)>
-    ensures { MatchOption result (is_id_before 1 (words.spelled call.now).arguments ≡ false)
-        (λ found. words.spelled call.now ≡ words.of_word found.0 (meant found.1 ∷ meant found.2 ∷ [])) }
+    ensures { MatchOption result (is_id_before 1 (spelled call.now).arguments ≡ false)
+        (λ found. spelled call.now ≡ of_word found.0 (meant found.1 ∷ meant found.2 ∷ [])) }
 {
     Some(match call {
         Call::CountSemTake { id, wait } => (

@@ -4,6 +4,7 @@ ghost use Rattle.osal_base.specs.Text.{Text as Said};
 ghost use Rattle.osal_call.specs.Argument.{Text};
 ghost use Rattle.osal_call.specs.Call.{part_of, said, text_of as of_bytes};
 ghost use Rattle.osal_call.specs.Shapes.{is_text};
+ghost use Rattle.osal_call.specs.Signature.{spelled, of_word};
 ghost use Rattle.osal_call.specs.Signature as words;
 
 use super::CallWord;
@@ -157,8 +158,8 @@ impl PathWord {
 /// The word and the argument of a call with a text alone.
 pub(crate) fn text_of(call: &Call) -> Option<(CallWord, &Bytes)>
     ensures { MatchOption result
-        (is_text (words.spelled call.now).arguments ≡ false)
-        (λ found. words.spelled call.now ≡ words.of_word found.0 (Text found.1.now.bytes ∷ [])) }
+        (is_text (spelled call.now).arguments ≡ false)
+        (λ found. spelled call.now ≡ of_word found.0 (Text found.1.now.bytes ∷ [])) }
 {
     Some(match call {
         Call::TaskFind { name } => (CallWord::Name(NameWord::TaskFind), name),

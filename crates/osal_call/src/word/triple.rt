@@ -1,7 +1,7 @@
 //! The calls with three arguments.
 ghost use Rattle.std.specs.Prelude.{◌≡◌, ◌==◌, ◌∷◌, [], false, length, MatchOption};
 ghost use Rattle.osal_call.specs.Shapes.{is_id_before, meant};
-ghost use Rattle.osal_call.specs.Signature as words;
+ghost use Rattle.osal_call.specs.Signature.{spelled, of_word};
 
 use super::CallWord;
 use crate::Call;
@@ -11,9 +11,9 @@ use crate::argument::Argument::{
 
 /// The word and the arguments of a call with three.
 pub(crate) fn triple_of(call: &Call) -> Option<(CallWord, Argument, Argument, Argument)>
-    ensures { MatchOption result ((length (words.spelled call.now).arguments == 3) ≡ false)
-        (λ found. words.spelled call.now
-        ≡ words.of_word found.0 (meant found.1 ∷ meant found.2 ∷ meant found.3 ∷ [])) }
+    ensures { MatchOption result ((length (spelled call.now).arguments == 3) ≡ false)
+        (λ found. spelled call.now
+        ≡ of_word found.0 (meant found.1 ∷ meant found.2 ∷ meant found.3 ∷ [])) }
 {
     Some(match call {
         Call::QueueCreate { name, depth, size } => (
@@ -63,9 +63,9 @@ pub(crate) fn triple_of(call: &Call) -> Option<(CallWord, Argument, Argument, Ar
 
 /// The word and the arguments of a call with an identifier and two more.
 fn object_triple_of(call: &Call) -> Option<(CallWord, Argument, Argument, Argument)>
-    ensures { MatchOption result (is_id_before 2 (words.spelled call.now).arguments ≡ false)
-        (λ found. words.spelled call.now
-        ≡ words.of_word found.0 (meant found.1 ∷ meant found.2 ∷ meant found.3 ∷ [])) }
+    ensures { MatchOption result (is_id_before 2 (spelled call.now).arguments ≡ false)
+        (λ found. spelled call.now
+        ≡ of_word found.0 (meant found.1 ∷ meant found.2 ∷ meant found.3 ∷ [])) }
 {
     Some(match call {
         Call::QueueGet { id, n, wait } => (
