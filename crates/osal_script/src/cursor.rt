@@ -82,12 +82,12 @@ impl<'a> Cursor<'a> {
     }
 
     /// The registers that the next line uses: the body's, or those of a handler.
-    fn frame(&self) -> [u32; 32]
-        ensures { result ≡ first_frame self.now.pending self.now.frames }
+    fn frame(&self) -> &[u32; 32]
+        ensures { result.now ≡ first_frame self.now.pending self.now.frames }
     {
         match self.handling.line() {
             Some(_) => self.handling.frame(),
-            None => self.registers,
+            None => &self.registers,
         }
     }
 
@@ -141,7 +141,7 @@ impl<'a> Cursor<'a> {
         match self.phase {
             Phase::Before => self.phase = phase_after_checkpoint(reply.answer),
             Phase::At => {
-                let part = part_made(self.line(), &self.frame());
+                let part = part_made(self.line(), self.frame());
                 self.pass_line(part, reply);
             }
             Phase::Waiting { .. } => self.pass_answer(reply),
@@ -175,7 +175,7 @@ impl<'a> Cursor<'a> {
             return;
         };
         self.phase = phase_after_line(&line.call, reply.answer);
-        self.walk = self.walk.behind();
+        self.walk.pass();
         set_register(&mut self.registers, &line.call, reply);
         self.handling.fire(line, reply);
     }
@@ -185,7 +185,7 @@ impl<'a> Cursor<'a> {
     fn line_call(&self, alloc: Global) -> Result<Call, OutOfMemory>
         ensures { IfOk result (λ call. said call ≡ script.line_call self.now.pending self.now.frames) }
     {
-        call_made(alloc, self.line(), &self.frame())
+        call_made(alloc, self.line(), self.frame())
     }
 
     /// The next call with its line. A name and a payload are copied: no call but a line's takes memory.

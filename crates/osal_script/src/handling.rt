@@ -120,10 +120,14 @@ impl<'a> Handling<'a> {
     }
 
     /// The registers that the next line uses: each is at 0 where the line is the handler's first.
-    pub fn frame(&self) -> [u32; 32]
-        ensures { result ≡ registers_in self.now }
+    pub fn frame(&self) -> &[u32; 32]
+        ensures { result.now ≡ registers_in self.now }
     {
-        if self.begun { self.registers } else { [0; 32] }
+        if self.begun {
+            &self.registers
+        } else {
+            &[0; 32]
+        }
     }
 
     /// Goes past the next line, which makes that call, and its reply.
@@ -133,12 +137,12 @@ impl<'a> Handling<'a> {
             ≡ registers_after (register_of call.now) (reply_of reply.now) (registers_in self.old) }
         ensures bodies { self.new.bodies ≡ self.old.bodies }
     {
-        let mut registers = self.frame();
-        set_register(&mut registers, call, reply);
-        self.registers = registers;
-        let walk = self.walk.behind();
-        if walk.line().is_some() {
-            self.walk = walk;
+        if !self.begun {
+            self.registers = [0; 32];
+        }
+        set_register(&mut self.registers, call, reply);
+        self.walk.pass();
+        if self.walk.line().is_some() {
             self.begun = true;
             return;
         }

@@ -55,15 +55,13 @@ impl<'a> Walk<'a> {
         requires { IsNested items.now }
         ensures { result ≡ first_of_levels (levels_of items.now) }
     {
-        let start = Place {
+        let mut place = Place {
             at: 0,
             depth: 0,
             turns: [Turn { start: 0, left: 0 }; 4],
         };
-        Walk {
-            items,
-            place: settled(items, start),
-        }
+        settle(items, &mut place);
+        Walk { items, place }
     }
 
     /// The line that comes next, if there is one.
@@ -73,14 +71,11 @@ impl<'a> Walk<'a> {
         line_at(self.items, &self.place)
     }
 
-    /// The walk behind the next line.
-    pub fn behind(&self) -> Walk<'a>
-        ensures { result ≡ behind_first self.now }
+    /// Goes past the line that comes next, if there is one.
+    pub fn pass(&mut self)
+        ensures { self.new ≡ behind_first self.old }
     {
-        Walk {
-            items: self.items,
-            place: place_behind(self.items, &self.place),
-        }
+        pass_line(self.items, &mut self.place);
     }
 }
 
@@ -95,53 +90,45 @@ fn line_at<'a>(items: &'a [Item], place: &Place) -> Option<&'a Line>
     }
 }
 
-/// The place behind the line at a place.
-fn place_behind(items: &[Item], place: &Place) -> Place
-    requires { IsSettled items.now place.now }
-    ensures within { IsSettled items.now result }
-    ensures lines { lines_at items.now result ≡ behind_first (lines_at items.now place.now) }
+/// Goes behind the line at a place, where there is one.
+fn pass_line(items: &[Item], place: &mut Place)
+    requires { IsSettled items.now place.old }
+    ensures within { IsSettled items.now place.new }
+    ensures lines { lines_at items.now place.new ≡ behind_first (lines_at items.now place.old) }
 {
     match items.get(place.at) {
         Some(Item::Call(_)) => {
-            let next = Place {
-                at: place.at + 1,
-                depth: place.depth,
-                turns: place.turns,
-            };
-            settled(items, next)
+            place.at += 1;
+            settle(items, place);
         }
-        Some(Item::Repeat { .. }) | Some(Item::End) | None => *place,
+        Some(Item::Repeat { .. }) | Some(Item::End) | None => {}
     }
 }
 
-/// The place at the next call line, or behind the last item. It skips the repeats in which no call line stands.
-fn settled(items: &[Item], mut place: Place) -> Place
-    requires { IsPlace items.now place }
-    ensures within { IsSettled items.now result }
-    ensures lines { lines_at items.now result ≡ lines_at items.now place }
+/// Goes on to the next call line, or behind the last item. It skips the repeats in which no call line stands.
+fn settle(items: &[Item], place: &mut Place)
+    requires { IsPlace items.now place.old }
+    ensures within { IsSettled items.now place.new }
+    ensures lines { lines_at items.now place.new ≡ lines_at items.now place.old }
 {
     loop {
         match items.get(place.at) {
-            Some(Item::Repeat { count }) => place = past_head(items, &place, *count),
-            Some(Item::End) => place = turned(items, &place),
-            Some(Item::Call(_)) | None => return place,
+            Some(Item::Repeat { count }) => pass_head(items, place, *count),
+            Some(Item::End) => pass_end(items, place),
+            Some(Item::Call(_)) | None => return,
         }
     }
 }
 
-/// The place behind the repeat at a place where no call line stands in it, or else behind its head.
-fn past_head(items: &[Item], place: &Place, count: u32) -> Place
-    requires place_in { IsPlace items.now place.now }
-    requires here { slice_get items.now place.now.at ≡ Some (item.Repeat count) }
-    ensures { IsPassed items.now place.now result }
+/// Goes behind the repeat at a place where no call line stands in it, or else behind its head.
+fn pass_head(items: &[Item], place: &mut Place, count: u32)
+    requires place_in { IsPlace items.now place.old }
+    requires here { slice_get items.now place.old.at ≡ Some (item.Repeat count) }
+    ensures { IsPassed items.now place.old place.new }
 {
     match empty_end(items, place.at + 1) {
-        Some(end) => Place {
-            at: end,
-            depth: place.depth,
-            turns: place.turns,
-        },
-        None => entered(items, place, count),
+        Some(end) => place.at = end,
+        None => enter(items, place, count),
     }
 }
 
@@ -163,46 +150,35 @@ fn empty_end(items: &[Item], start: usize) -> Option<usize>
     None
 }
 
-/// The place behind the head of the repeat at a place.
-fn entered(items: &[Item], place: &Place, count: u32) -> Place
-    requires place_in { IsPlace items.now place.now }
-    requires here { slice_get items.now place.now.at ≡ Some (item.Repeat count) }
-    ensures { IsPassed items.now place.now result }
+/// Goes behind the head of the repeat at a place.
+fn enter(items: &[Item], place: &mut Place, count: u32)
+    requires place_in { IsPlace items.now place.old }
+    requires here { slice_get items.now place.old.at ≡ Some (item.Repeat count) }
+    ensures { IsPassed items.now place.old place.new }
 {
-    let mut turns = place.turns;
-    turns[place.depth] = Turn {
+    place.turns[place.depth] = Turn {
         start: place.at + 1,
         left: count - 1,
     };
-    Place {
-        at: place.at + 1,
-        depth: place.depth + 1,
-        turns,
-    }
+    place.at += 1;
+    place.depth += 1;
 }
 
-/// The place behind the end at a place: the start of the repeat's next turn, or what follows the repeat.
-fn turned(items: &[Item], place: &Place) -> Place
-    requires place_in { IsPlace items.now place.now }
-    requires here { slice_get items.now place.now.at ≡ Some item.End }
-    ensures { IsPassed items.now place.now result }
+/// Goes on from the end at a place: to the start of the repeat's next turn, or to what follows the repeat.
+fn pass_end(items: &[Item], place: &mut Place)
+    requires place_in { IsPlace items.now place.old }
+    requires here { slice_get items.now place.old.at ≡ Some item.End }
+    ensures { IsPassed items.now place.old place.new }
 {
-    let mut turns = place.turns;
-    let turn = turns[place.depth - 1];
+    let turn = place.turns[place.depth - 1];
     if turn.left == 0 {
-        return Place {
-            at: place.at + 1,
-            depth: place.depth - 1,
-            turns,
-        };
+        place.at += 1;
+        place.depth -= 1;
+        return;
     }
-    turns[place.depth - 1] = Turn {
+    place.turns[place.depth - 1] = Turn {
         start: turn.start,
         left: turn.left - 1,
     };
-    Place {
-        at: turn.start,
-        depth: place.depth,
-        turns,
-    }
+    place.at = turn.start;
 }

@@ -1,6 +1,6 @@
 use Rattle.std.proofs.Common.{◌∙◌, sym}
 use Rattle.osal_script.proofs.Empty.{empty_passed}
-use Rattle.osal_script.proofs.walk.past_head.Goals as goal
+use Rattle.osal_script.proofs.walk.pass_head.Goals as goal
 
 pub returns-in-Some : goal.returns-in-Some
 returns-in-Some c =
