@@ -1,6 +1,7 @@
 //! The objects of one kind beside the waits that stand on them: what every part of the machine does alike.
 #![tactic(auto)]
 
+mod guesses;
 mod held;
 pub mod laws;
 mod objects;

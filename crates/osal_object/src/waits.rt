@@ -9,6 +9,7 @@ ghost use Rattle.osal_object.specs.Tests.{Computes};
 ghost use Rattle.osal_object.specs.Deadlines.{deadline_above, deadlines_in, least, sooner};
 
 use crate::Standing;
+use crate::guesses::Guesses;
 use crate::held::{Held, Place, places};
 use osal_base::{Moment, OsalId, OutOfMemory, Status, Timeout};
 use std::alloc::Global;
@@ -78,6 +79,7 @@ pub(crate) struct Waits<W> {
     open: Vec<Held<W>>,
     /// For the waits that are to come.
     free: Vec<Place<W>>,
+    guesses: Guesses,
     capacity: u32,
 }
 
@@ -97,11 +99,11 @@ impl<W> Model for Waits<W> {
 }
 
 impl<W> Waits<W> {
-    /// The turn of a task's open wait, the oldest's being 0. It looks at each task at most.
+    /// The turn of a task's open wait, the oldest's being 0. It looks at each task at most, and mostly at one.
     pub(crate) fn turn_of(&self, task: OsalId) -> Option<usize>
         ensures { MatchOption result (wait_of self.now task ≡ None) (IsTurn self.now task) }
     {
-        turn_among(self.tasks.as_slice(), task)
+        turn_by(self.tasks.as_slice(), task, self.guesses.turn_of(task))
     }
 
     /// The open wait that has a turn.
@@ -185,6 +187,7 @@ impl<W: Drop> Waits<W> {
             tasks,
             open,
             free,
+            guesses: Guesses::none(),
             capacity,
         })
     }
@@ -196,6 +199,7 @@ impl<W: Drop> Waits<W> {
         ensures { self.new ≡ with_wait self.old wait }
     {
         let place = self.free.pop().unwrap();
+        self.guesses.begin(wait.task, self.tasks.len());
         self.tasks.push_reserved(wait.task);
         self.open.push_reserved(place.fill(wait));
     }
@@ -208,6 +212,7 @@ impl<W: Drop> Waits<W> {
         let _task = self.tasks.remove(turn);
         let held = self.open.remove(turn);
         self.free.push_reserved(held.empty());
+        self.guesses.end();
     }
 
     /// Releases each wait that passes a test.
@@ -220,7 +225,19 @@ impl<W: Drop> Waits<W> {
     }
 }
 
-/// Where a task stands among some.
+/// Where a task stands among some: at the guess, or it is looked for.
+fn turn_by(tasks: &[OsalId], task: OsalId, guess: usize) -> Option<usize>
+    ensures { MatchOption result
+        (list_any (λ other. other == task) tasks.now ≡ false)
+        (λ turn. slice_get tasks.now turn ≡ Some task) }
+{
+    match tasks.get(guess) {
+        Some(other) if *other == task => Some(guess),
+        _ => turn_among(tasks, task),
+    }
+}
+
+/// Where a task stands among some. It looks at each.
 fn turn_among(tasks: &[OsalId], task: OsalId) -> Option<usize>
     ensures { MatchOption result
         (list_any (λ other. other == task) tasks.now ≡ false)
