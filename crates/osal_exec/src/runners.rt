@@ -1,13 +1,13 @@
 //! The tasks whose scripts run, each in the slot of its identifier.
 ghost use Rattle.std.specs.Prelude.{◌≡◌, ◌<◌, ◌≤◌, ◌^◌, None, Some, length, replicate, slice_set, option_copied, IfOk};
 ghost use Rattle.std.specs.List.{AllByRecursion};
-ghost use Rattle.osal_script.specs.Script.{after_entry};
+ghost use Rattle.osal_script.specs.Script.{after_entry, start_of};
 ghost use Rattle.osal_runs.specs.Segments.{begun};
 ghost use Rattle.osal_exec.specs.Running.{runner_at, slot_of_task, gone_on, with_entry, with_begun, EmptyFrom, IsIdentifier};
 
 use osal_base::{Answer, OsalId, OutOfMemory};
 use osal_call::{Call, Entry};
-use osal_script::{App, Cursor};
+use osal_script::{App, Body, Cursor};
 use std::alloc::Global;
 use std::marker::Model;
 
@@ -120,11 +120,14 @@ impl<'a> Runners<'a> {
         follow_in(&mut self.slots[slot as usize], made);
     }
 
-    /// Puts a task at the start of its script into its slot.
-    fn put(&mut self, id: OsalId, cursor: Cursor<'a>)
-        ensures { self.new ≡ slice_set self.old (slot_of_task id) (Some (record { id = id; script = cursor.entry })) }
+    /// Puts a task at the start of a body's script into its slot.
+    #[inline(never)] // wherever this is in line, room for a cursor is cleared, and few entries begin a task
+    fn put(&mut self, id: OsalId, app: &'a App, body: &'a Body)
+        ensures { self.new ≡ slice_set self.old (slot_of_task id)
+            (Some (record { id = id; script = start_of app.now.bodies body.now })) }
     {
         let slot = id.index(SLOTS);
+        let cursor = Cursor::new(app, body);
         self.slots[slot as usize] = Some(Runner { id, cursor });
         self.used = self.used.max(slot + 1);
     }
@@ -140,7 +143,7 @@ impl<'a> Runners<'a> {
         if let Call::TaskCreate { body, .. } = &made.call {
             if *body < app.bodies() {
                 let id = OsalId::of_raw(made.reply.number as u32);
-                self.put(id, Cursor::new(app, app.body(*body)));
+                self.put(id, app, app.body(*body));
             }
         }
     }

@@ -45,6 +45,7 @@ pub(crate) struct Stage<'a> {
 }
 
 /// Makes a call of the machine at its moment, and gives the entry.
+#[inline(always)] // an entry is large to move
 fn entry_of(
     alloc: Global,
     whole: &mut Whole,

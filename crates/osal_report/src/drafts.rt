@@ -1,5 +1,5 @@
 //! One pass over a journal, with a draft for each segment.
-ghost use Rattle.std.specs.Prelude.{◌≡◌, ◌++◌, map, OnOk, IfOk};
+ghost use Rattle.std.specs.Prelude.{◌≡◌, ◌++◌, [], ◌∷◌, map, OnOk, IfOk};
 ghost use Rattle.std.specs.Ordering.{nat_cmp};
 ghost use Rattle.std.specs.List.{AllByRecursion, list_any};
 ghost use Rattle.std.specs.BTreeMap.{get};
@@ -11,7 +11,7 @@ use crate::draft::Draft;
 use crate::entry::begun;
 use osal_base::{OsalId, OutOfMemory};
 use osal_call::Entry;
-use osal_script::App;
+use osal_script::{App, Body};
 use std::alloc::Global;
 use std::collections::BTreeMap;
 
@@ -58,9 +58,26 @@ impl<'a> Drafts<'a> {
         };
         let id = entry.reply.number;
         self.newest.insert(id, self.list.len())?;
-        self.list.push(Draft::new(alloc, id, name, app, body))?;
+        add(&mut self.list, alloc, id, name, app, body)?;
         Ok(())
     }
+}
+
+/// Adds the draft of a task that was just created.
+#[inline(never)] // wherever this is in line, room for a draft is cleared, and few entries create a task
+fn add<'a>(
+    list: &mut Vec<Draft<'a>>,
+    alloc: Global,
+    id: u64,
+    name: &'a [u8],
+    app: &'a App,
+    body: &'a Body,
+) -> Result<(), OutOfMemory>
+    ensures { OnOk result (list.new.items ≡ list.old.items ++ draft_of
+        (record { id = id; name = name.now; bodies = app.now.bodies; body = body.now; entries = [] }) ∷ []) }
+{
+    list.push(Draft::new(alloc, id, name, app, body))?;
+    Ok(())
 }
 
 /// The drafts of a journal's segments, in order.

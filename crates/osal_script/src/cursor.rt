@@ -181,6 +181,7 @@ impl<'a> Cursor<'a> {
     }
 
     /// The call of the line that comes next, or the exit where none does.
+    #[inline(always)] // a call is large to move
     #[tactic(auto, using(crate::proofs::Frames::call_with_frame))]
     fn line_call(&self, alloc: Global) -> Result<Call, OutOfMemory>
         ensures { IfOk result (λ call. said call ≡ script.line_call self.now.pending self.now.frames) }
@@ -189,6 +190,7 @@ impl<'a> Cursor<'a> {
     }
 
     /// The next call with its line. A name and a payload are copied: no call but a line's takes memory.
+    #[inline(always)] // a call is large to move
     pub fn step(&self, alloc: Global) -> Result<Step, OutOfMemory>
         ensures step { IfOk result (λ step. IsStep self.now step) }
         ensures memory { OnErr result (self.now.phase ≡ phase.At) }
